@@ -1,0 +1,142 @@
+-- A board as 72 bytes, when such bytes are sound, and an answer as 12.
+-- From document 01, "Records (added)": "Board" is its word for the state that a run starts from and leaves.
+use mathlib.Core.Bool.{Bool, true, false, not, _&&_, _||_}
+use mathlib.Core.List.{List, [], _∷_, _++_, map}
+use Prim.Native.Nat.{ℕ, zero, suc, _+_, _-_, _*_, _/_, _%_}
+use lib.ListN.{length}
+use lib.Dec.{eqb, leb}
+use Rattle.model.specs.Base.{if_then_else_, bit, same, byteAt, number, Field, field, encoded}
+use Rattle.model.specs.Waitcnt.{prefetchEnable}
+use Rattle.model.specs.Wait.{inWindow}
+use Rattle.model.specs.declared.PrefetchBuffer.{PrefetchBuffer}
+use Rattle.model.specs.declared.Clock.{Clock}
+use Rattle.model.specs.declared.Contents.{Contents}
+use Rattle.model.specs.declared.Board.{Board}
+use Rattle.model.specs.declared.Answer.{Answer}
+
+abbrev pub boardLength : ℕ
+boardLength = 72
+
+-- ---- from bytes
+
+-- the prefetch switch follows from WAITCNT
+unfoldable pub clockOf : List ℕ → Clock
+clockOf b =
+    record {
+      waitcnt = number 2 b 0;
+      «force_next_fetch_n» = eqb (byteAt b 2) 1;
+      prefetch =
+          record {
+            head = byteAt b 3;
+            count = byteAt b 4;
+            «next_addr» = number 4 b 12;
+            «wait_left» = number 4 b 8;
+            «head_addr» = number 4 b 16;
+            enabled = prefetchEnable (number 2 b 0);
+            filling = eqb (byteAt b 5) 1;
+            «first_beat» = eqb (byteAt b 6) 1;
+          };
+    }
+
+-- n halfwords from place i on
+abbrev pub halvesFrom : List ℕ → ℕ → ℕ → List ℕ
+halvesFrom b i zero = []
+halvesFrom b i (suc n) = number 2 b i ∷ halvesFrom b (i + 2) n
+
+unfoldable pub contentsOf : List ℕ → Contents
+contentsOf b =
+    record {
+      halves = halvesFrom b 20 8;
+      «cpu_pc» = number 4 b 36;
+      «last_bios_opcode» = number 4 b 40;
+      «vram_write_count» = number 8 b 44;
+      «oam_write_count» = number 8 b 52;
+      «palette_write_count» = number 8 b 60;
+    }
+
+abbrev pub boardOf : List ℕ → Board
+boardOf b = record { clock = clockOf b; contents = contentsOf b }
+
+-- ---- to bytes
+
+-- bytes 0 to 19
+abbrev pub clockFields : Clock → List Field
+clockFields c =
+    field 2 (c .waitcnt)
+    ∷ field 1 (bit (c .«force_next_fetch_n»))
+    ∷ field 1 (c .prefetch .head)
+    ∷ field 1 (c .prefetch .count)
+    ∷ field 1 (bit (c .prefetch .filling))
+    ∷ field 1 (bit (c .prefetch .«first_beat»))
+    ∷ field 1 0
+    ∷ field 4 (c .prefetch .«wait_left»)
+    ∷ field 4 (c .prefetch .«next_addr»)
+    ∷ field 4 (c .prefetch .«head_addr»)
+    ∷ []
+
+-- bytes 36 to 71
+abbrev pub contentsFields : Contents → List Field
+contentsFields d =
+    field 4 (d .«cpu_pc»)
+    ∷ field 4 (d .«last_bios_opcode»)
+    ∷ field 8 (d .«vram_write_count»)
+    ∷ field 8 (d .«oam_write_count»)
+    ∷ field 8 (d .«palette_write_count»)
+    ∷ field 4 0
+    ∷ []
+
+unfoldable pub boardBytes : Board → List ℕ
+boardBytes b =
+    encoded (clockFields (b .clock)) ++ (encoded (map (field 2) (b .contents .halves)) ++ encoded (contentsFields (b .contents)))
+
+-- ---- a sound board
+
+-- filling is 1 exactly when wait left is at least 1; then there is room, and next address lies in a ROM window
+unfoldable pub soundBeat : PrefetchBuffer → Bool
+soundBeat p =
+    same (p .filling) (leb 1 (p .«wait_left»)) && (not (p .filling) || (leb (p .count) 7 && inWindow (p .«next_addr»)))
+
+-- the halfwords that stand run from head address to next address
+unfoldable pub soundRow : PrefetchBuffer → Bool
+soundRow p =
+    if eqb (p .count) 0 then eqb (p .«head_addr») 0
+    else inWindow (p .«head_addr») && inWindow (p .«next_addr» - 2) && eqb (p .«head_addr» + 2 * p .count) (p .«next_addr»)
+
+-- with prefetch off, bytes 3-6 and 8-19 are 0
+unfoldable pub isZero : PrefetchBuffer → Bool
+isZero p =
+    eqb (p .head) 0 && eqb (p .count) 0 && not (p .filling) && not (p .«first_beat»)
+    && eqb (p .«wait_left») 0 && eqb (p .«next_addr») 0 && eqb (p .«head_addr») 0
+
+unfoldable pub soundPrefetch : PrefetchBuffer → Bool
+soundPrefetch p =
+    leb (p .head) 7 && leb (p .count) 8 && leb (p .«wait_left») 9 && eqb (p .«next_addr» % 2) 0
+    && soundBeat p && soundRow p && (p .enabled || isZero p)
+
+-- zero bytes are zero, flags are 0 or 1, WAITCNT bit 13 is clear
+unfoldable pub soundBytes : List ℕ → Bool
+soundBytes b =
+    eqb (byteAt b 7) 0 && eqb (number 4 b 68) 0 && leb (byteAt b 2) 1 && leb (byteAt b 5) 1 && leb (byteAt b 6) 1
+    && eqb (number 2 b 0 / 0x2000 % 2) 0
+
+unfoldable pub sound : List ℕ → Bool
+sound b = eqb (length b) boardLength && soundBytes b && soundPrefetch ((clockOf b) .prefetch)
+
+-- ---- answers
+
+abbrev pub answerFields : Answer → List Field
+answerFields x =
+    field 4 (x .value)
+    ∷ field 4 (x .cycles)
+    ∷ field 1 (x .hits)
+    ∷ field 1 (x .count)
+    ∷ field 1 (bit (x .force))
+    ∷ field 1 0
+    ∷ []
+
+abbrev pub answerBytes : Answer → List ℕ
+answerBytes x = encoded (answerFields x)
+
+abbrev pub answersBytes : List Answer → List ℕ
+answersBytes [] = []
+answersBytes (x ∷ xs) = answerBytes x ++ answersBytes xs

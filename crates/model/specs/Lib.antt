@@ -1,0 +1,16 @@
+pub mod Base
+pub mod Region
+pub mod Mirror
+pub mod Waitcnt
+pub mod Wait
+pub mod Prefetch
+pub mod DisableBug
+pub mod Timing
+pub mod Video
+pub mod Load
+pub mod Store
+pub mod Price
+pub mod Step
+pub mod Sheet
+pub mod BoardBytes
+pub mod Outcome

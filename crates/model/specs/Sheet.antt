@@ -1,0 +1,124 @@
+-- A sheet: its header and its records, as bytes; the steps that they stand for; and the faults of a record.
+-- From document 01, "Records (added)": "Sheet" is its word for the list of steps that a run is given.
+use mathlib.Core.Bool.{Bool, true, false, not, _&&_, _||_}
+use mathlib.Core.List.{List, [], _∷_, map}
+use Prim.Native.Nat.{ℕ, zero, suc, _+_, _*_}
+use lib.ListN.{length}
+use lib.Dec.{eqb, ltb, leb}
+use Rattle.model.specs.Base.{if_then_else_, byteAt, number}
+use Rattle.model.specs.declared.AccessSize.{AccessSize}
+use Rattle.model.specs.declared.AccessSize.the-variants.{Byte, Half, Word}
+use Rattle.model.specs.declared.IsaState.{IsaState}
+use Rattle.model.specs.declared.IsaState.the-variants.{Arm, Thumb}
+use Rattle.model.specs.declared.Step.{Step}
+use Rattle.model.specs.declared.Step.the-variants.{Read, Write, Waitcnt, Idle, Fetch, Restart, Instruction, Pc, Latch}
+
+-- ---- the header: bytes 0-2 "BTS", 3-4 the version, 5 zero, 6-7 the number of records
+
+abbrev pub maxRecords : ℕ
+maxRecords = 4096
+
+abbrev pub isMarked : List ℕ → Bool
+isMarked s = leb 8 (length s) && eqb (byteAt s 0) 0x42 && eqb (byteAt s 1) 0x54 && eqb (byteAt s 2) 0x53
+
+abbrev pub versionOf : List ℕ → ℕ
+versionOf s = number 2 s 3
+
+abbrev pub recordCount : List ℕ → ℕ
+recordCount s = number 2 s 6
+
+-- byte 5 is zero, there are not too many records, and the sheet is as long as they are
+abbrev pub isShaped : List ℕ → Bool
+isShaped s = eqb (byteAt s 5) 0 && leb (recordCount s) maxRecords && eqb (length s) (8 + 12 * recordCount s)
+
+-- ---- a record: 12 bytes
+
+pub record SheetRecord : Type 0 where
+  pub kind : ℕ
+  pub size : ℕ
+  pub flag : ℕ
+  pub zeroByte : ℕ
+  pub address : ℕ
+  pub value : ℕ
+
+unfoldable pub recordAt : List ℕ → ℕ → SheetRecord
+recordAt s k =
+    record {
+      kind = byteAt s (8 + 12 * k);
+      size = byteAt s (8 + 12 * k + 1);
+      flag = byteAt s (8 + 12 * k + 2);
+      zeroByte = byteAt s (8 + 12 * k + 3);
+      address = number 4 s (8 + 12 * k + 4);
+      value = number 4 s (8 + 12 * k + 8);
+    }
+
+-- n records from number k on
+unfoldable pub recordsFrom : List ℕ → ℕ → ℕ → List SheetRecord
+recordsFrom s k zero = []
+recordsFrom s k (suc n) = recordAt s k ∷ recordsFrom s (k + 1) n
+
+abbrev pub recordsOf : List ℕ → List SheetRecord
+recordsOf s = recordsFrom s 0 (recordCount s)
+
+-- ---- the step of a record without fault. Kinds: 1 READ, 2 WRITE, 3 WAITCNT, 4 IDLE, 5 FETCH, 6 RESTART, 7 INSTRUCTION, 8 PC, 9 LATCH
+
+unfoldable pub accessSize : ℕ → AccessSize
+accessSize size = if eqb size 1 then Byte else if eqb size 2 then Half else Word
+
+unfoldable pub isaState : ℕ → IsaState
+isaState size = if eqb size 2 then Thumb else Arm
+
+unfoldable pub stepOf : SheetRecord → Step
+stepOf r =
+    if eqb (r .kind) 1 then Read (accessSize (r .size)) (r .address)
+    else if eqb (r .kind) 2 then Write (accessSize (r .size)) (r .address) (r .value)
+    else if eqb (r .kind) 3 then Waitcnt (r .value)
+    else if eqb (r .kind) 4 then Idle (r .value)
+    else if eqb (r .kind) 5 then Fetch (r .address)
+    else if eqb (r .kind) 6 then Restart (r .address)
+    else if eqb (r .kind) 7 then Instruction (isaState (r .size)) (r .address) (r .value) (eqb (r .flag) 1)
+    else if eqb (r .kind) 8 then Pc (r .address)
+    else Latch (r .value)
+
+abbrev pub stepsOf : List ℕ → List Step
+stepsOf s = map stepOf (recordsOf s)
+
+-- ---- the faults of a record
+
+-- the table's first two columns: kinds 1 to 9, and the sizes of each
+unfoldable pub sizeFits : ℕ → ℕ → Bool
+sizeFits kind size =
+    if eqb kind 1 || eqb kind 2 then eqb size 1 || eqb size 2 || eqb size 4
+    else if eqb kind 7 then eqb size 2 || eqb size 4
+    else eqb size 0
+
+unfoldable pub kindFault : SheetRecord → Bool
+kindFault r = not (leb 1 (r .kind) && leb (r .kind) 9 && sizeFits (r .kind) (r .size))
+
+-- the table's last column: which fields a kind uses
+abbrev pub usesFlag : ℕ → Bool
+usesFlag kind = eqb kind 7
+
+abbrev pub usesAddress : ℕ → Bool
+usesAddress kind = eqb kind 1 || eqb kind 2 || eqb kind 5 || eqb kind 6 || eqb kind 7 || eqb kind 8
+
+abbrev pub usesValue : ℕ → Bool
+usesValue kind = eqb kind 2 || eqb kind 3 || eqb kind 4 || eqb kind 7 || eqb kind 9
+
+-- a field that a kind doesn't use is 0; the flag is 0 or 1, and WAITCNT's value has 16 bits
+unfoldable pub fieldFault : SheetRecord → Bool
+fieldFault r =
+    not (eqb (r .zeroByte) 0
+    && (usesFlag (r .kind) || eqb (r .flag) 0)
+    && leb (r .flag) 1
+    && (usesAddress (r .kind) || eqb (r .address) 0)
+    && (usesValue (r .kind) || eqb (r .value) 0)
+    && (not (eqb (r .kind) 3) || leb (r .value) 0xFFFF))
+
+abbrev pub faulty : SheetRecord → Bool
+faulty r = kindFault r || fieldFault r
+
+-- the number of records before the first faulty one: all of them where there is none
+unfoldable pub leastFaulty : List SheetRecord → ℕ
+leastFaulty [] = 0
+leastFaulty (r ∷ rs) = let n = leastFaulty rs in if faulty r then 0 else suc n

@@ -1,0 +1,228 @@
+// The types that the machine's definitions (specs/) and every layer's code share. A type that ports one of the Rust's
+// keeps its name; the others are made for the scope document's added parts. No code that runs a sheet is here: only the
+// functions by which a type makes its own fresh value.
+ghost use mathlib.Core.Path.{_≡_};
+ghost use Rattle.model.specs.Prefetch.{newBuffer};
+ghost use Rattle.model.specs.Step.{freshBoard};
+
+// ---- src/bus/region.rs
+
+pub enum Region {
+    Bios,
+    UnusedLow,
+    Ewram,
+    Iwram,
+    Io,
+    Palette,
+    Vram,
+    Oam,
+    GamePakRomWs0,
+    GamePakRomWs1,
+    GamePakRomWs2,
+    GamePakSram,
+    UnusedHigh,
+}
+
+pub enum BusWidth {
+    Bits8,
+    Bits16,
+    Bits32,
+}
+
+// `Option<BusWidth>`: the unused areas have no bus.
+pub enum RegionWidth {
+    Wide(BusWidth),
+    NoBus,
+}
+
+// `Option<usize>`: the unused areas have no memory.
+pub enum RegionSize {
+    Bytes(usize),
+    NoMemory,
+}
+
+// ---- src/bus/mirror.rs
+
+// `Option<usize>`: the place of an address in its memory, if one stands there.
+pub enum Offset {
+    At(usize),
+    Unbacked,
+}
+
+// ---- src/bus/wait.rs
+
+pub enum AccessKind {
+    Nonseq,
+    Seq,
+}
+
+pub enum RomWindow {
+    Ws0,
+    Ws1,
+    Ws2,
+}
+
+// `Option<RomWindow>`: the ROM window of an address, if it has one.
+pub enum Windowed {
+    In(RomWindow),
+    Outside,
+}
+
+pub enum AccessSize {
+    Byte,
+    Half,
+    Word,
+}
+
+// ---- src/bus/prefetch.rs
+
+// The prefetch buffer without its eight halfwords, which stand beside it: time does not depend on them.
+pub struct PrefetchBuffer {
+    pub head: usize,
+    pub count: usize,
+    pub next_addr: u32,
+    pub wait_left: u32,
+    pub head_addr: u32,
+    pub enabled: bool,
+    pub filling: bool,
+    pub first_beat: bool,
+}
+
+impl PrefetchBuffer {
+    // The buffer of a fresh board: switched off and empty.
+    pub fn new() -> PrefetchBuffer
+        ensures { λ r. ⌜ r ≡ newBuffer ⌝ }
+    {
+        PrefetchBuffer {
+            head: 0,
+            count: 0,
+            next_addr: 0,
+            wait_left: 0,
+            head_addr: 0,
+            enabled: false,
+            filling: false,
+            first_beat: false,
+        }
+    }
+}
+
+// ---- src/cpu/timing.rs
+
+pub enum IsaState {
+    Arm,
+    Thumb,
+}
+
+pub struct TimingInput {
+    pub isa: IsaState,
+    pub code_addr: u32,
+    pub opcode_raw: u32,
+    pub pc_changed: bool,
+    pub prefetch_enabled: bool,
+    pub force_fetch_n: bool,
+}
+
+pub struct InsnCycles {
+    pub total: u32,
+    pub internal: u32,
+    pub cart_idle: u32,
+    pub latch_disable_bug: bool,
+    pub fetch_kind: AccessKind,
+}
+
+// ---- added: a step, and the state that a run carries
+
+// A record of a sheet, decoded: one variant for each of the nine kinds, in their order.
+pub enum Step {
+    Read(AccessSize, u32),
+    Write(AccessSize, u32, u32),
+    Waitcnt(u16),
+    Idle(u32),
+    Fetch(u32),
+    Restart(u32),
+    Instruction(IsaState, u32, u32, bool),
+    Pc(u32),
+    Latch(u32),
+}
+
+// The part of a board on which cycles, hits, counts and the force flag depend, and nothing else of it.
+pub struct Clock {
+    pub waitcnt: u16,
+    pub force_next_fetch_n: bool,
+    pub prefetch: PrefetchBuffer,
+}
+
+// The rest of a board: what loads and stores see or change.
+pub struct Contents {
+    pub halves: [u16; 8],
+    pub cpu_pc: u32,
+    pub last_bios_opcode: u32,
+    pub vram_write_count: u64,
+    pub oam_write_count: u64,
+    pub palette_write_count: u64,
+}
+
+pub struct Board {
+    pub clock: Clock,
+    pub contents: Contents,
+}
+
+impl Board {
+    // The board whose 72 bytes are all zero.
+    pub fn fresh() -> Board
+        ensures { λ r. ⌜ r ≡ freshBoard ⌝ }
+    {
+        let prefetch = PrefetchBuffer::new();
+        let clock = Clock {
+            waitcnt: 0,
+            force_next_fetch_n: false,
+            prefetch,
+        };
+        let contents = Contents {
+            halves: [0u16; 8],
+            cpu_pc: 0,
+            last_bios_opcode: 0,
+            vram_write_count: 0,
+            oam_write_count: 0,
+            palette_write_count: 0,
+        };
+        Board { clock, contents }
+    }
+}
+
+// The lengths of the seven memories of the lent store, in its order.
+pub struct Lengths {
+    pub ewram: usize,
+    pub iwram: usize,
+    pub io: usize,
+    pub palette: usize,
+    pub vram: usize,
+    pub oam: usize,
+    pub sram: usize,
+}
+
+pub struct Answer {
+    pub value: u32,
+    pub cycles: u32,
+    pub hits: u8,
+    pub count: u8,
+    pub force: bool,
+}
+
+// ---- added: what the run gives back
+
+// The seven refusals, in the order in which they are looked for; the last holds the faulty record's index.
+pub enum Refusal {
+    BadMark,
+    BadVersion,
+    BadShape,
+    BadLengths,
+    UnsoundBoard,
+    ShortAnswers,
+    FaultyRecord(usize),
+}
+
+pub enum Verdict {
+    Accepted,
+    Refused(Refusal),
+}
