@@ -14,3 +14,4 @@ pub mod Step
 pub mod Sheet
 pub mod BoardBytes
 pub mod Outcome
+pub mod Laws

@@ -1,0 +1,7 @@
+-- The theorems about the definitions, from the small to the large.
+pub mod Choice
+pub mod Bounds
+pub mod Tick
+pub mod Window
+pub mod Switch
+pub mod Sound

@@ -1,0 +1,39 @@
+-- An address has a ROM window exactly when it lies from 0x08000000 up to 0x0DFFFFFF.
+use mathlib.Core.Path.{_≡_, refl}
+use mathlib.Core.Bool.{Bool, true, false, true≢false, false≢true}
+use Prim.Native.Nat.{ℕ, _/_, _≤_, _<_}
+use native.Mathlib.Omega.{arith}
+use lib.Dec.{ltb}
+use Rattle.model.specs.Base.{if_then_else_}
+use Rattle.model.specs.Region.{page}
+use Rattle.model.specs.Wait.{window, isIn, inWindow}
+use Rattle.model.specs.Laws.Choice.{choose, tests}
+use Rattle.model.specs.declared.RomWindow.{RomWindow}
+use Rattle.model.specs.declared.Windowed.{Windowed}
+use Rattle.model.specs.declared.Windowed.the-variants.{In, Outside}
+
+pub record InRom (a : ℕ) : Type 0 where
+  pub least : 0x0800_0000 ≤ a
+  pub below : a < 0x0E00_0000
+
+pub inWindow-true : (a : ℕ) → inWindow a ≡ true → InRom a
+unfolding window
+inWindow-true a =
+    choose (λ (r : Windowed). isIn r ≡ true → InRom a) (ltb (page a) 0x08) (λ e h. absurd (false≢true h))
+    λ e₁. choose (λ (r : Windowed). isIn r ≡ true → InRom a) (ltb (page a) 0x0A) (λ e h. omega (arith, tests))
+    λ e₂. choose (λ (r : Windowed). isIn r ≡ true → InRom a) (ltb (page a) 0x0C) (λ e h. omega (arith, tests))
+    λ e₃. choose (λ (r : Windowed). isIn r ≡ true → InRom a) (ltb (page a) 0x0E) (λ e h. omega (arith, tests))
+    λ e h. absurd (false≢true h)
+
+pub true-inWindow : (a : ℕ) → InRom a → inWindow a ≡ true
+unfolding window
+true-inWindow a k =
+    choose (λ (r : Windowed). isIn r ≡ true) (ltb (page a) 0x08) (λ e. absurd (omega (arith, tests)))
+    λ e₁. choose (λ (r : Windowed). isIn r ≡ true) (ltb (page a) 0x0A) (λ e. refl)
+    λ e₂. choose (λ (r : Windowed). isIn r ≡ true) (ltb (page a) 0x0C) (λ e. refl)
+    λ e₃. choose (λ (r : Windowed). isIn r ≡ true) (ltb (page a) 0x0E) (λ e. refl)
+    λ e. absurd (omega (arith, tests))
+
+-- a window found is one
+pub window-in : (a : ℕ) (win : RomWindow) → window a ≡ In win → InRom a
+window-in a win e = inWindow-true a (rw e)
