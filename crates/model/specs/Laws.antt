@@ -5,3 +5,7 @@ pub mod Tick
 pub mod Window
 pub mod Switch
 pub mod Sound
+pub mod SoundTest
+pub mod Run
+pub mod Timing
+pub mod Refusal

@@ -14,4 +14,5 @@ pub mod Step
 pub mod Sheet
 pub mod BoardBytes
 pub mod Outcome
+pub mod Alike
 pub mod Laws

@@ -1,0 +1,66 @@
+-- What demand 3 says: two sheets and two boards that are alike, the columns that two accepted runs agree in, and the limits of the total.
+-- From document 01, "Demand 3".
+use mathlib.Core.Path.{_≡_}
+use mathlib.Core.Logic.{_≢_}
+use mathlib.Core.Bool.{Bool, true, false, _||_}
+use mathlib.Core.List.{List, [], _∷_, map}
+use Prim.Native.Nat.{ℕ, zero, suc, _+_, _*_, _≤_, _<_}
+use lib.Dec.{eqb}
+use Rattle.model.specs.Base.{if_then_else_, bit, sum, byteAt, number}
+use Rattle.model.specs.Sheet.{SheetRecord, recordAt, recordCount, recordsOf}
+use Rattle.model.specs.BoardBytes.{boardLength}
+use Rattle.model.specs.Outcome.{Lent, Outcome, outcome}
+
+-- ---- alike
+
+-- records agree in kind, size, flag and address, and, but for WRITE and LATCH, in value
+pub record AlikeRecords (r s : SheetRecord) : Type 0 where
+  pub kind : r .kind ≡ s .kind
+  pub size : r .size ≡ s .size
+  pub flag : r .flag ≡ s .flag
+  pub address : r .address ≡ s .address
+  pub value : r .kind ≢ 2 → r .kind ≢ 9 → r .value ≡ s .value
+
+-- sheets agree in bytes 0 to 7, and their records are alike
+pub record AlikeSheets (s t : List ℕ) : Type 0 where
+  pub header : (i : ℕ) → i < 8 → byteAt s i ≡ byteAt t i
+  pub records : (k : ℕ) → k < recordCount s → AlikeRecords (recordAt s k) (recordAt t k)
+
+-- boards agree outside bytes 20 to 35 and 40 to 67
+abbrev pub AlikeBoards : List ℕ → List ℕ → Type 0
+AlikeBoards b c = (i : ℕ) → i < boardLength → ¬ ((20 ≤ i) × (i ≤ 35)) → ¬ ((40 ≤ i) × (i ≤ 67)) → byteAt b i ≡ byteAt c i
+
+-- ---- counted from the records of a sheet
+
+-- I: the INSTRUCTION records
+abbrev pub instructionsIn : List SheetRecord → ℕ
+instructionsIn rs = sum (map (λ (r : SheetRecord). bit (eqb (r .kind) 7)) rs)
+
+-- A: the READ and WRITE records
+abbrev pub accessesIn : List SheetRecord → ℕ
+accessesIn rs = sum (map (λ (r : SheetRecord). bit (eqb (r .kind) 1 || eqb (r .kind) 2)) rs)
+
+-- D: the values of the IDLE records
+abbrev pub idleCyclesIn : List SheetRecord → ℕ
+idleCyclesIn rs = sum (map (λ (r : SheetRecord). if eqb (r .kind) 4 then r .value else 0) rs)
+
+-- I + A + D ≤ total ≤ 19 I + 18 A + D
+pub record Limits (rs : List SheetRecord) (n : ℕ) : Type 0 where
+  pub least : instructionsIn rs + accessesIn rs + idleCyclesIn rs ≤ n
+  pub most : n ≤ 19 * instructionsIn rs + 18 * accessesIn rs + idleCyclesIn rs
+
+-- ---- the claim
+
+-- the cycles of n answers from number k on, as they stand in the lent answers
+abbrev pub cyclesFrom : List ℕ → ℕ → ℕ → List ℕ
+cyclesFrom b k zero = []
+cyclesFrom b k (suc n) = number 4 b (12 * k + 4) ∷ cyclesFrom b (suc k) n
+
+pub record Demand3 (i j : Lent) : Type 0 where
+  -- bytes 4 to 10 of every step's answer: cycles, hits, prefetch count, force flag
+  pub columns : (k at : ℕ) → k < recordCount (i .sheet) → 4 ≤ at → at ≤ 10
+      → byteAt ((outcome i) .answers) (12 * k + at) ≡ byteAt ((outcome j) .answers) (12 * k + at)
+  pub totals : (outcome i) .total ≡ (outcome j) .total
+  -- the total is the sum of the cycles in the answers
+  pub summed : (outcome i) .total ≡ sum (cyclesFrom ((outcome i) .answers) 0 (recordCount (i .sheet)))
+  pub limits : Limits (recordsOf (i .sheet)) ((outcome i) .total)
