@@ -9,3 +9,7 @@ pub mod SoundTest
 pub mod Run
 pub mod Timing
 pub mod Refusal
+pub mod Codec
+pub mod Limits
+pub mod Fits
+pub mod Demand3

@@ -5,7 +5,7 @@ use mathlib.Core.List.{List, _++_}
 use Prim.Native.Nat.{ℕ, _+_, _*_}
 use lib.ListN.{length, drop}
 use lib.Dec.{eqb, ltb, leb}
-use Rattle.model.specs.Base.{if_then_else_}
+use Rattle.model.specs.Base.{if_then_else_, AllBytes}
 use Rattle.model.specs.Region.{biosSize, ewramSize, iwramSize, ioSize, paletteSize, vramSize, oamSize, romSize, sramSize}
 use Rattle.model.specs.Load.{lengthsSum}
 use Rattle.model.specs.Step.{Media, State, Result, run, total}
@@ -26,6 +26,11 @@ pub record Lent : Type 0 where
   pub rom : List ℕ
   pub answers : List ℕ
   pub lengths : Lengths
+
+-- what is lent are slices of bytes; the laws need it of these two
+pub record LentBytes (i : Lent) : Type 0 where
+  pub sheet : AllBytes (i .sheet)
+  pub board : AllBytes (i .board)
 
 -- what the caller gets and finds
 pub record Outcome : Type 0 where

@@ -14,7 +14,7 @@ use Rattle.model.specs.Prefetch.{hit, fetched}
 use Rattle.model.specs.Timing.{internal, codeSize, romHalf, romFetch, plainFetch, fetchIn, fetchCycles, idleIn, cartIdle, priceInsn}
 use Rattle.model.specs.Price.{romDataCycles, priceIn, dataCycles}
 use Rattle.model.specs.Step.{waitsOf, cycles, romHits, hitsIn, codeHits, hits}
-use Rattle.model.specs.Laws.Choice.{either}
+use Rattle.model.specs.Laws.Choice.{either, bit≤1}
 use Rattle.model.specs.declared.Clock.{Clock}
 use Rattle.model.specs.declared.PrefetchBuffer.{PrefetchBuffer}
 use Rattle.model.specs.declared.Region.{Region}
@@ -142,10 +142,6 @@ pub fetch-between : (w : ℕ) (p : PrefetchBuffer) (force : Bool) (isa : IsaStat
 unfolding fetchCycles
 fetch-between w p force isa a = fetchIn-between w p a (nonseqIf force) isa (window a)
 
-pub bit≤1 : (t : Bool) → bit t ≤ 1
-bit≤1 true = omega arith
-bit≤1 false = omega arith
-
 idleIn≤6 : (a : ℕ) (isa : IsaState) (v : Windowed) → idleIn a isa v ≤ 6
 idleIn≤6 a isa (In win) = omega arith
 idleIn≤6 a isa Outside = omega (arith, plainFetch-between a isa)
@@ -202,6 +198,18 @@ step-between c (Instruction isa a op changed) =
     omega (arith, fetch-between (c .waitcnt) (c .prefetch) (c .«force_next_fetch_n») isa a, bit≤1 (internal isa op))
 step-between c (Pc a) = omega arith
 step-between c (Latch v) = omega arith
+
+-- a step's cycles fit 32 bits where its idle cycles do
+pub cycles-fit : (c : Clock) (x : Step) → idles x ≤ 0xFFFF_FFFF → cycles c x ≤ 0xFFFF_FFFF
+cycles-fit c (Read z a) h = omega (arith, step-between c (Read z a))
+cycles-fit c (Write z a v) h = omega (arith, step-between c (Write z a v))
+cycles-fit c (Waitcnt v) h = omega arith
+cycles-fit c (Idle n) h = h
+cycles-fit c (Fetch a) h = omega arith
+cycles-fit c (Restart a) h = omega arith
+cycles-fit c (Instruction isa a op changed) h = omega (arith, step-between c (Instruction isa a op changed))
+cycles-fit c (Pc a) h = omega arith
+cycles-fit c (Latch v) h = omega arith
 
 -- ---- at most two hits a step
 

@@ -2,10 +2,11 @@
 use mathlib.Core.Path.{_≡_, refl, sym, _∙_}
 use mathlib.Core.Bool.{Bool, true, false, not, _&&_, _||_, true≢false, false≢true}
 use mathlib.Core.Logic.{_≢_}
-use Prim.Native.Nat.{ℕ}
+use Prim.Native.Nat.{ℕ, _≤_}
+use native.Mathlib.Omega.{arith}
 use lib.Dec.{eqb}
 use borrow.Author.Tests.{ltb-true, ltb-false, leb-true, leb-false, eqb-true, eqb-false}
-use Rattle.model.specs.Base.{if_then_else_}
+use Rattle.model.specs.Base.{if_then_else_, bit}
 
 pub eqb-ne : (a b : ℕ) → eqb a b ≡ false → a ≢ b
 eqb-ne a b e h = eqb-false a b e h
@@ -44,6 +45,10 @@ if-false false x y e = refl
 
 pub never : {A : Type 0} {t : Bool} → t ≡ true → t ≡ false → A
 never p q = absurd (true≢false (sym p ∙ q))
+
+pub bit≤1 : (t : Bool) → bit t ≤ 1
+bit≤1 true = omega arith
+bit≤1 false = omega arith
 
 -- ---- conjunctions and disjunctions
 

@@ -41,6 +41,19 @@ unfolding run
 run-keeps P m k s [] p = p
 run-keeps P m k s (x ∷ xs) p = run-keeps P m k (stepped m s x) xs (k s x p)
 
+-- a claim about every element of a list
+abbrev pub All : {A : Type 0} → (A → Type 0) → List A → Type 0
+All P [] = Unit
+All P (x ∷ xs) = P x × All P xs
+
+-- what every answer of a kept state has, every answer of a run has; S is what is known of the steps
+pub run-all : (Q : State → Type 0) (S : Step → Type 0) (P : Answer → Type 0) (m : Media)
+    → ((s : State) (x : Step) → Q s → S x → P (answer m s x)) → ((s : State) (x : Step) → Q s → Q (stepped m s x))
+    → (s : State) (xs : List Step) → Q s → All S xs → All P ((run m s xs) .answers)
+unfolding run
+run-all Q S P m f k s [] q t = tt
+run-all Q S P m f k s (x ∷ xs) q t = (f s x q (t .0), run-all Q S P m f k (stepped m s x) xs (k s x q) (t .1))
+
 -- ---- the clock stays sound
 
 pub run-sound : (m : Media) (s : State) (xs : List Step) → SoundClock (s .board .clock) → SoundClock ((run m s xs) .state .board .clock)

@@ -1,0 +1,295 @@
+-- What is written as bytes is read back, and what was read is written back: for a number of any width, then for a board.
+-- `decode-encode` and `encode-decode` say it of a board; what a sound board asks of its bytes besides (length, zero bytes, flags) is here too.
+use mathlib.Core.Path.{_≡_, refl, sym, ap, ap₂, _∙_}
+use mathlib.Core.Bool.{Bool, true, false, _&&_, false≢true}
+use mathlib.Core.List.{List, [], _∷_, _++_, map}
+use Prim.Native.Nat.{ℕ, zero, suc, _+_, _*_, _/_, _%_, _^_, _≤_, _<_}
+use native.Mathlib.Omega.{arith}
+use native.Mathlib.Numerals.{add-one}
+use native.Mathlib.Nat.{pow-suc, one-le-pow, mod-eq-of-lt, add-assoc}
+use lib.Arith.{mod-mul}
+use lib.ListN.{length, getD, take, drop, replicate, length-append}
+use lib.Seq.{getD-append-add, drop-cons, take-add, take-all, drop-drop}
+use lib.Dec.{eqb}
+use borrow.Author.Tests.{eqb-true, leb-true}
+use Rattle.model.specs.Base.{bit, sum, bytes, byteAt, number, AllBytes, Field, field, encoded}
+use Rattle.model.specs.Waitcnt.{prefetchEnable}
+use Rattle.model.specs.BoardBytes.{clockOf, halvesFrom, contentsOf, boardOf, clockFields, contentsFields, boardBytes, soundBytes, sound}
+use Rattle.model.specs.Laws.Choice.{parts}
+use Rattle.model.specs.declared.Clock.{Clock}
+use Rattle.model.specs.declared.Contents.{Contents}
+use Rattle.model.specs.declared.Board.{Board}
+
+-- ---- numbers of any width
+
+pub bytes-length : (n v : ℕ) → length (bytes n v) ≡ n
+bytes-length zero v = refl
+bytes-length (suc n) v = ap suc (bytes-length n (v / 256))
+
+-- bytes in front only shift the place
+pub number-past : (n : ℕ) (xs ys : List ℕ) (i : ℕ) → number n (xs ++ ys) (length xs + i) ≡ number n ys i
+number-past zero xs ys i = refl
+number-past (suc n) xs ys i = rw (getD-append-add, add-assoc, number-past n xs ys)
+
+pub number-bytes : (n v : ℕ) (rest : List ℕ) → number n (bytes n v ++ rest) 0 ≡ v % 256 ^ n
+number-bytes zero v rest = omega arith
+number-bytes (suc n) v rest =
+    let tail : List ℕ = bytes n (v / 256) ++ rest in
+    let high : number n (v % 256 ∷ tail) 1 ≡ v / 256 % 256 ^ n = number-past n (v % 256 ∷ []) tail 0 ∙ number-bytes n (v / 256) rest in
+    rw (high, pow-suc, mod-mul v {m = 256 ^ n} {c = 256} (one-le-pow n 256 (omega arith)) (omega arith)) (omega arith)
+
+pub number-fits : (n v : ℕ) (rest : List ℕ) → v < 256 ^ n → number n (bytes n v ++ rest) 0 ≡ v
+number-fits n v rest h = number-bytes n v rest ∙ mod-eq-of-lt h
+
+pub number-below : (n i : ℕ) (b : List ℕ) → AllBytes b → number n b i < 256 ^ n
+number-below zero i b h = omega arith
+number-below (suc n) i b h = rw pow-suc (omega (arith, h i, number-below n (i + 1) b h))
+
+pub bytes-number : (n i : ℕ) (b : List ℕ) → AllBytes b → i + n ≤ length b → bytes n (number n b i) ≡ take n (drop i b)
+bytes-number zero i b h l = refl
+bytes-number (suc n) i b h l =
+    let low : (byteAt b i + 256 * number n b (i + 1)) % 256 ≡ byteAt b i = omega (arith, h i) in
+    let high : (byteAt b i + 256 * number n b (i + 1)) / 256 ≡ number n b (i + 1) = omega (arith, h i) in
+    rw (low, high, bytes-number n (i + 1) b h (omega arith), drop-cons b i 0 (omega arith), add-one)
+
+-- ---- fields
+
+-- fields of these widths, read one after the other from place i on
+abbrev fieldsAt : List ℕ → List ℕ → ℕ → List Field
+fieldsAt [] b i = []
+fieldsAt (w ∷ ws) b i = field w (number w b i) ∷ fieldsAt ws b (i + w)
+
+-- such fields are written as they stood
+fields-back : (ws b : List ℕ) (i : ℕ) → AllBytes b → i + sum ws ≤ length b → encoded (fieldsAt ws b i) ≡ take (sum ws) (drop i b)
+fields-back [] b i h l = refl
+fields-back (w ∷ ws) b i h l =
+    rw (bytes-number w i b h (omega arith), fields-back ws b (i + w) h (omega arith), take-add, drop-drop)
+
+-- ---- halfwords
+
+abbrev halfBytes : List ℕ → List ℕ
+halfBytes hs = encoded (map (field 2) hs)
+
+halfBytes-length : (hs : List ℕ) → length (halfBytes hs) ≡ 2 * length hs
+halfBytes-length [] = refl
+halfBytes-length (h ∷ hs) = omega (arith, halfBytes-length hs)
+
+halves-past : (xs ys : List ℕ) (i n : ℕ) → halvesFrom (xs ++ ys) (length xs + i) n ≡ halvesFrom ys i n
+halves-past xs ys i zero = refl
+halves-past xs ys i (suc n) = rw (number-past, add-assoc, halves-past xs ys (i + 2) n)
+
+halves-back : (hs rest : List ℕ) → ((i : ℕ) → getD hs i 0 < 0x1_0000) → halvesFrom (halfBytes hs ++ rest) 0 (length hs) ≡ hs
+halves-back [] rest h = refl
+halves-back (x ∷ hs) rest h =
+    ap₂ (λ (y : ℕ) (ys : List ℕ). y ∷ ys) (number-fits 2 x (halfBytes hs ++ rest) (h 0))
+    (halves-past (bytes 2 x) (halfBytes hs ++ rest) 0 (length hs) ∙ halves-back hs rest (λ i. h (suc i)))
+
+halves-below : (b : List ℕ) → AllBytes b → (i n j : ℕ) → getD (halvesFrom b i n) j 0 < 0x1_0000
+halves-below b h i zero j = omega arith
+halves-below b h i (suc n) zero = number-below 2 i b h
+halves-below b h i (suc n) (suc j) = halves-below b h (i + 2) n j
+
+-- ---- a board whose fields fit their bytes
+
+pub record ClockFits (c : Clock) : Type 0 where
+  pub waitcnt-fits : c .waitcnt < 2 ^ 16
+  pub head-fits : c .prefetch .head < 256
+  pub count-fits : c .prefetch .count < 256
+  pub wait-left-fits : c .prefetch .«wait_left» < 2 ^ 32
+  pub next-addr-fits : c .prefetch .«next_addr» < 2 ^ 32
+  pub head-addr-fits : c .prefetch .«head_addr» < 2 ^ 32
+  pub switch : c .prefetch .enabled ≡ prefetchEnable (c .waitcnt)
+
+pub record ContentsFits (d : Contents) : Type 0 where
+  pub eight : length (d .halves) ≡ 8
+  pub halves-fit : (i : ℕ) → getD (d .halves) i 0 < 0x1_0000
+  pub pc-fits : d .«cpu_pc» < 2 ^ 32
+  pub opcode-fits : d .«last_bios_opcode» < 2 ^ 32
+  pub vram-fits : d .«vram_write_count» < 2 ^ 64
+  pub oam-fits : d .«oam_write_count» < 2 ^ 64
+  pub palette-fits : d .«palette_write_count» < 2 ^ 64
+
+pub record Fits (b : Board) : Type 0 where
+  pub clock-fits : ClockFits (b .clock)
+  pub contents-fits : ContentsFits (b .contents)
+
+-- what is read from bytes fits them
+pub decoded-fits : (b : List ℕ) → AllBytes b → Fits (boardOf b)
+unfolding clockOf contentsOf
+decoded-fits b h =
+    record {
+      clock-fits =
+          record {
+            waitcnt-fits = number-below 2 0 b h;
+            head-fits = h 3;
+            count-fits = h 4;
+            wait-left-fits = number-below 4 8 b h;
+            next-addr-fits = number-below 4 12 b h;
+            head-addr-fits = number-below 4 16 b h;
+            switch = refl;
+          };
+      contents-fits =
+          record {
+            eight = refl;
+            halves-fit = halves-below b h 20 8;
+            pc-fits = number-below 4 36 b h;
+            opcode-fits = number-below 4 40 b h;
+            vram-fits = number-below 8 44 b h;
+            oam-fits = number-below 8 52 b h;
+            palette-fits = number-below 8 60 b h;
+          };
+    }
+
+-- ---- the written board
+
+-- The clock's 20 bytes stand in front and have fixed widths, so places in them compute.
+pub zero-byte : (b : Board) → byteAt (boardBytes b) 7 ≡ 0
+unfolding boardBytes
+zero-byte b = refl
+
+flag-byte : (t : Bool) → bit t % 256 ≡ bit t
+flag-byte true = refl
+flag-byte false = refl
+
+pub force-byte : (b : Board) → byteAt (boardBytes b) 2 ≡ bit (b .clock .«force_next_fetch_n»)
+unfolding boardBytes
+force-byte b = flag-byte (b .clock .«force_next_fetch_n»)
+
+pub filling-byte : (b : Board) → byteAt (boardBytes b) 5 ≡ bit (b .clock .prefetch .filling)
+unfolding boardBytes
+filling-byte b = flag-byte (b .clock .prefetch .filling)
+
+pub first-byte : (b : Board) → byteAt (boardBytes b) 6 ≡ bit (b .clock .prefetch .«first_beat»)
+unfolding boardBytes
+first-byte b = flag-byte (b .clock .prefetch .«first_beat»)
+
+-- Past the halfwords a place is known only once their number is.
+module _ (b : Board) (eight : length (b .contents .halves) ≡ 8) where
+  pub board-length : length (boardBytes b) ≡ 72
+  unfolding boardBytes
+  board-length = simp (length-append, halfBytes-length, eight)
+
+  past-halves : (n i : ℕ) → number n (boardBytes b) (36 + i) ≡ number n (encoded (contentsFields (b .contents))) i
+  unfolding boardBytes
+  past-halves n i =
+      let front : List ℕ = encoded (clockFields (b .clock)) ++ halfBytes (b .contents .halves) in
+      let e : 36 ≡ length front = simp (halfBytes-length, eight) in
+      rw e (number-past n front (encoded (contentsFields (b .contents))) i)
+
+  pub zero-word : number 4 (boardBytes b) 68 ≡ 0
+  zero-word = past-halves 4 32
+
+-- ---- written, then read
+
+flag-back : (t : Bool) → eqb (bit t % 256) 1 ≡ t
+flag-back true = refl
+flag-back false = refl
+
+pub clock-back : (b : Board) → ClockFits (b .clock) → clockOf (boardBytes b) ≡ b .clock
+unfolding clockOf boardBytes
+clock-back b k x =
+    record {
+      waitcnt = waitcnt-back x;
+      «force_next_fetch_n» = flag-back (b .clock .«force_next_fetch_n») x;
+      prefetch =
+          record {
+            head = mod-eq-of-lt (k .head-fits) x;
+            count = mod-eq-of-lt (k .count-fits) x;
+            «next_addr» = number-fits 4 (b .clock .prefetch .«next_addr») [] (k .next-addr-fits) x;
+            «wait_left» = number-fits 4 (b .clock .prefetch .«wait_left») [] (k .wait-left-fits) x;
+            «head_addr» = number-fits 4 (b .clock .prefetch .«head_addr») [] (k .head-addr-fits) x;
+            enabled = (ap prefetchEnable waitcnt-back ∙ sym (k .switch)) x;
+            filling = flag-back (b .clock .prefetch .filling) x;
+            «first_beat» = flag-back (b .clock .prefetch .«first_beat») x;
+          };
+    }
+  where
+    waitcnt-back : number 2 (bytes 2 (b .clock .waitcnt)) 0 ≡ b .clock .waitcnt
+    waitcnt-back = number-fits 2 (b .clock .waitcnt) [] (k .waitcnt-fits)
+
+pub contents-back : (b : Board) → ContentsFits (b .contents) → contentsOf (boardBytes b) ≡ b .contents
+unfolding contentsOf boardBytes
+contents-back b k x =
+    record {
+      halves = all-back x;
+      «cpu_pc» = back 4 0 (b .contents .«cpu_pc») refl (k .pc-fits) x;
+      «last_bios_opcode» = back 4 4 (b .contents .«last_bios_opcode») refl (k .opcode-fits) x;
+      «vram_write_count» = back 8 8 (b .contents .«vram_write_count») refl (k .vram-fits) x;
+      «oam_write_count» = back 8 16 (b .contents .«oam_write_count») refl (k .oam-fits) x;
+      «palette_write_count» = back 8 24 (b .contents .«palette_write_count») refl (k .palette-fits) x;
+    }
+  where
+    tail : List ℕ
+    tail = encoded (contentsFields (b .contents))
+
+    all-back : halvesFrom (halfBytes (b .contents .halves) ++ tail) 0 8 ≡ b .contents .halves
+    all-back = rw (k .eight) at (halves-back (b .contents .halves) tail (k .halves-fit))
+
+    -- v stands in the n bytes i places past the halfwords
+    back : (n i v : ℕ) → number n tail i ≡ number n (bytes n v ++ []) 0 → v < 256 ^ n → number n (boardBytes b) (36 + i) ≡ v
+    back n i v e h = past-halves b (k .eight) n i ∙ e ∙ number-fits n v [] h
+
+pub decode-encode : (b : Board) → Fits b → boardOf (boardBytes b) ≡ b
+decode-encode b k x = record { clock = clock-back b (k .clock-fits) x; contents = contents-back b (k .contents-fits) x }
+
+-- ---- read, then written
+
+-- what that needs of soundness: the bytes that a board does not keep whole
+pub record WellFormed (b : List ℕ) : Type 0 where
+  pub size : length b ≡ 72
+  pub zero₇ : byteAt b 7 ≡ 0
+  pub zero₆₈ : number 4 b 68 ≡ 0
+  pub flag₂ : byteAt b 2 ≤ 1
+  pub flag₅ : byteAt b 5 ≤ 1
+  pub flag₆ : byteAt b 6 ≤ 1
+
+pub sound-formed : (b : List ℕ) → sound b ≡ true → WellFormed b
+unfolding sound soundBytes
+sound-formed b e =
+    record {
+      size = eqb-true (length b) 72 (search parts);
+      zero₇ = eqb-true (byteAt b 7) 0 (search parts depth 7);
+      zero₆₈ = eqb-true (number 4 b 68) 0 (search parts depth 7);
+      flag₂ = leb-true (byteAt b 2) 1 (search parts);
+      flag₅ = leb-true (byteAt b 5) 1 (search parts);
+      flag₆ = leb-true (byteAt b 6) 1 (search parts);
+    }
+
+-- the widths of bytes 8 to 67, and of all
+abbrev inner : List ℕ
+inner = 4 ∷ 4 ∷ 4 ∷ replicate 8 2 ++ (4 ∷ 4 ∷ 8 ∷ 8 ∷ 8 ∷ [])
+
+abbrev widths : List ℕ
+widths = 2 ∷ replicate 6 1 ++ (inner ++ (4 ∷ []))
+
+bit-back : (v : ℕ) → v ≤ 1 → bit (eqb v 1) ≡ v
+bit-back zero h = refl
+bit-back (suc zero) h = refl
+bit-back (suc (suc v)) h = absurd (omega arith)
+
+-- the fields that are written are those that stood
+fields-read : (b : List ℕ) → WellFormed b
+    → clockFields (clockOf b) ++ (map (field 2) ((contentsOf b) .halves) ++ contentsFields (contentsOf b)) ≡ fieldsAt widths b 0
+unfolding clockOf contentsOf
+fields-read b k x =
+    field 2 (number 2 b 0)
+    ∷ field 1 (flag 2 (k .flag₂) x)
+    ∷ field 1 (one 3 x)
+    ∷ field 1 (one 4 x)
+    ∷ field 1 (flag 5 (k .flag₅) x)
+    ∷ field 1 (flag 6 (k .flag₆) x)
+    ∷ field 1 ((sym (k .zero₇) ∙ one 7) x)
+    ∷ (fieldsAt inner b 8 ++ (field 4 (sym (k .zero₆₈) x) ∷ []))
+  where
+    one : (i : ℕ) → byteAt b i ≡ number 1 b i
+    one i = omega arith
+
+    flag : (i : ℕ) → byteAt b i ≤ 1 → bit (eqb (byteAt b i) 1) ≡ number 1 b i
+    flag i h = bit-back (byteAt b i) h ∙ one i
+
+pub encode-formed : (b : List ℕ) → AllBytes b → WellFormed b → boardBytes (boardOf b) ≡ b
+unfolding boardBytes clockOf contentsOf
+encode-formed b h k = ap encoded (fields-read b k) ∙ fields-back widths b 0 h (omega arith) ∙ take-all 72 b (omega arith)
+
+pub encode-decode : (b : List ℕ) → AllBytes b → sound b ≡ true → boardBytes (boardOf b) ≡ b
+encode-decode b h e = encode-formed b h (sound-formed b e)

@@ -1,0 +1,150 @@
+-- Nothing is cut off: every answer's cycles, hits and count fit their bytes, and the total is at most 4096 (2^32 - 1). The board that an
+-- accepted run writes is sound.
+use mathlib.Core.Path.{_≡_, refl, sym, ap, _∙_}
+use mathlib.Core.Bool.{Bool, true, false, not, _&&_, _||_}
+use mathlib.Core.List.{List, [], _∷_, map}
+use Prim.Native.Nat.{ℕ, zero, suc, _+_, _*_, _/_, _%_, _^_, _≤_, _<_}
+use native.Mathlib.Omega.{arith}
+use lib.ListN.{length, length-map}
+use lib.Dec.{eqb, leb}
+use borrow.Author.Tests.{eqb-true, leb-true, eq-eqb, le-leb}
+use Rattle.model.specs.Base.{if_then_else_, bit, sum, byteAt, number, AllBytes}
+use Rattle.model.specs.Step.{Media, State, Result, run, total, cycles, hits, clockAfter, stepped, freshBoard}
+use Rattle.model.specs.Sheet.{maxRecords, isShaped, recordCount, recordsOf, stepOf, stepsOf}
+use Rattle.model.specs.BoardBytes.{clockOf, contentsOf, boardOf, boardBytes, soundPrefetch, soundBytes, sound}
+use Rattle.model.specs.Outcome.{Lent, LentBytes, Outcome, mediaOf, firstState, ran, outcomeBy, outcome}
+use Rattle.model.specs.Laws.Choice.{parts, and-true, bit≤1}
+use Rattle.model.specs.Laws.Bounds.{idles, cycles-fit, hits≤2}
+use Rattle.model.specs.Laws.Sound.{Sound, Stands, SoundClock, clockAfter-sound, fresh-sound}
+use Rattle.model.specs.Laws.SoundTest.{sound-true, true-sound}
+use Rattle.model.specs.Laws.Run.{All, run-all, run-length, run-sound, run-halves}
+use Rattle.model.specs.Laws.Codec.{ClockFits, number-below, clock-back, board-length, zero-byte, zero-word, force-byte, filling-byte, first-byte}
+use Rattle.model.specs.Laws.Limits.{idles-small, records-length}
+use Rattle.model.specs.Laws.Refusal.{Acceptable, zero-exactly, was-accepted}
+use Rattle.model.specs.declared.Clock.{Clock}
+use Rattle.model.specs.declared.Board.{Board}
+use Rattle.model.specs.declared.Answer.{Answer}
+use Rattle.model.specs.declared.Step.{Step}
+use Rattle.model.specs.declared.Verdict.the-variants.{Accepted}
+
+-- ---- soundness, of bytes
+
+-- sound bytes hold a sound clock
+pub sound-clock : (b : List ℕ) → AllBytes b → sound b ≡ true → SoundClock (clockOf b)
+unfolding sound soundBytes clockOf
+sound-clock b h e =
+    record {
+      size = number-below 2 0 b h;
+      bit13 = eqb-true (number 2 b 0 / 0x2000 % 2) 0 (search parts);
+      switch = refl;
+      buffer = sound-true ((clockOf b) .prefetch) (number-below 4 12 b h) (search parts);
+    }
+
+-- a sound clock fits its bytes
+head-fits : (c : Clock) → SoundClock c → c .prefetch .«head_addr» < 2 ^ 32
+head-fits c k = go (c .prefetch .count) refl
+  where
+    go : (n : ℕ) → c .prefetch .count ≡ n → c .prefetch .«head_addr» < 2 ^ 32
+    go zero e = let z : c .prefetch .«head_addr» ≡ 0 = k .buffer .empty e in omega arith
+    go (suc n) e =
+        let d : Stands (c .prefetch .«head_addr») (c .prefetch .count) (c .prefetch .«next_addr») = k .buffer .stands (omega arith) in
+        omega arith
+
+pub clock-fits : (c : Clock) → SoundClock c → ClockFits c
+clock-fits c k =
+    record {
+      waitcnt-fits = k .size;
+      head-fits = omega (arith, k .buffer .head≤7);
+      count-fits = omega (arith, k .buffer .count≤8);
+      wait-left-fits = omega (arith, k .buffer .wait≤9);
+      next-addr-fits = k .buffer .next<2³²;
+      head-addr-fits = head-fits c k;
+      switch = k .switch;
+    }
+
+-- a board with a sound clock is written as sound bytes
+written-bit13 : (b : Board) → SoundClock (b .clock) → eqb (number 2 (boardBytes b) 0 / 0x2000 % 2) 0 ≡ true
+unfolding clockOf
+written-bit13 b k =
+    ap (λ (c : Clock). eqb (c .waitcnt / 0x2000 % 2) 0) (clock-back b (clock-fits (b .clock) k)) ∙ eq-eqb (b .clock .waitcnt / 0x2000 % 2) 0 (k .bit13)
+
+written-flag : (x : ℕ) (t : Bool) → x ≡ bit t → leb x 1 ≡ true
+written-flag x t e = le-leb x 1 (rw e (bit≤1 t))
+
+pub written-sound : (b : Board) → SoundClock (b .clock) → length (b .contents .halves) ≡ 8 → sound (boardBytes b) ≡ true
+unfolding sound soundBytes
+written-sound b k eight =
+    and-true _ _
+    (and-true _ _ (eq-eqb (length (boardBytes b)) 72 (board-length b eight))
+    (and-true _ _
+    (and-true _ _
+    (and-true _ _
+    (and-true _ _ (and-true _ _ (eq-eqb (byteAt (boardBytes b) 7) 0 (zero-byte b)) (eq-eqb (number 4 (boardBytes b) 68) 0 (zero-word b eight)))
+    (written-flag _ (b .clock .«force_next_fetch_n») (force-byte b)))
+    (written-flag _ (b .clock .prefetch .filling) (filling-byte b)))
+    (written-flag _ (b .clock .prefetch .«first_beat») (first-byte b)))
+    (written-bit13 b k)))
+    (ap (λ (c : Clock). soundPrefetch (c .prefetch)) (clock-back b (clock-fits (b .clock) k)) ∙ true-sound (b .clock .prefetch) (k .buffer))
+
+-- the fresh board is sound
+pub fresh-board : sound (boardBytes freshBoard) ≡ true
+fresh-board = written-sound freshBoard fresh-sound refl
+
+-- ---- the fields of an answer
+
+pub record AnswerFits (x : Answer) : Type 0 where
+  pub cycles : x .cycles ≤ 0xFFFF_FFFF
+  pub hits : x .hits ≤ 2
+  pub count : x .count ≤ 8
+
+run-fits : (m : Media) (s : State) (xs : List Step) → SoundClock (s .board .clock) → All (λ (x : Step). idles x ≤ 0xFFFF_FFFF) xs
+    → All AnswerFits ((run m s xs) .answers)
+run-fits m =
+    run-all (λ (s : State). SoundClock (s .board .clock)) (λ (x : Step). idles x ≤ 0xFFFF_FFFF) AnswerFits m
+    (λ s x k h.
+    record {
+      cycles = cycles-fit (s .board .clock) x h;
+      hits = hits≤2 (s .board .clock) x;
+      count = (clockAfter-sound (s .board .clock) x k) .buffer .count≤8;
+    })
+    (λ s x k. clockAfter-sound (s .board .clock) x k)
+
+sum-fits : (xs : List Answer) → All AnswerFits xs → sum (map (λ (x : Answer). x .cycles) xs) ≤ 0xFFFF_FFFF * length xs
+sum-fits [] a = omega arith
+sum-fits (x ∷ xs) a = omega (arith, a .0 .cycles, sum-fits xs (a .1))
+
+-- ---- an accepted run
+
+-- an answer a record
+pub answers-length : (i : Lent) → length ((ran i) .answers) ≡ recordCount (i .sheet)
+unfolding ran
+answers-length i =
+    run-length (mediaOf i) (firstState i) (stepsOf (i .sheet)) ∙ length-map (recordsOf (i .sheet)) stepOf
+    ∙ records-length (i .sheet) 0 (recordCount (i .sheet))
+
+module _ (i : Lent) (lent : LentBytes i) (ok : (outcome i) .number ≡ 0) where
+  acceptable : Acceptable i
+  acceptable = (zero-exactly i) .0 ok
+
+  pub first-sound : SoundClock (clockOf (i .board))
+  first-sound = sound-clock (i .board) (lent .board) (acceptable .board)
+
+  pub answers-fit : All AnswerFits ((ran i) .answers)
+  unfolding ran
+  answers-fit =
+      run-fits (mediaOf i) (firstState i) (stepsOf (i .sheet)) first-sound (idles-small (i .sheet) 0 (recordCount (i .sheet)) (lent .sheet))
+
+  pub total-fits : (outcome i) .total ≤ 4096 * 0xFFFF_FFFF
+  total-fits =
+      let shaped : isShaped (i .sheet) ≡ true = acceptable .shaped in
+      let few : leb (recordCount (i .sheet)) maxRecords ≡ true = search parts in
+      let most : recordCount (i .sheet) ≤ 4096 = leb-true (recordCount (i .sheet)) 4096 few in
+      rw (was-accepted i ok) (omega (arith, sum-fits ((ran i) .answers) answers-fit, answers-length i))
+
+  pub board-sound : sound ((outcome i) .board) ≡ true
+  unfolding ran contentsOf
+  board-sound =
+      ap (λ (o : Outcome). sound (o .board)) (was-accepted i ok)
+      ∙ written-sound ((ran i) .state .board)
+      (run-sound (mediaOf i) (firstState i) (stepsOf (i .sheet)) first-sound)
+      (run-halves 8 (mediaOf i) (firstState i) (stepsOf (i .sheet)) refl)
