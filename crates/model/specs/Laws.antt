@@ -13,3 +13,4 @@ pub mod Codec
 pub mod Limits
 pub mod Fits
 pub mod Demand3
+pub mod Figures

@@ -1,0 +1,99 @@
+-- The starred worked figures of document 01, joined as one theorem about the definitions. Each starts from the fresh board; where a
+-- figure is about a large memory, it holds whatever the memory held.
+use mathlib.Core.Path.{_≡_, refl}
+use mathlib.Core.Bool.{false}
+use mathlib.Core.List.{List, [], _∷_, map}
+use Prim.Native.Nat.{ℕ}
+use lib.ListN.{set}
+use Rattle.model.specs.Region.{decode}
+use Rattle.model.specs.Mirror.{ewramOffset, vramOffset, ioOffset}
+use Rattle.model.specs.Waitcnt.{written, prefetchEnable, nWaits, sWaits, romWaits}
+use Rattle.model.specs.Wait.{window, kindAt, romHalfCycles}
+use Rattle.model.specs.Prefetch.{setEnabled, restart, startBeat, arrived, ended, advance, ready, tick1, ticks, arrives, filled, hit, taken, fetched}
+use Rattle.model.specs.DisableBug.{armInternal, thumbInternal}
+use Rattle.model.specs.Timing.{romHalf, plainFetch, fetchCycles, cartIdle, disableBug, priceInsn}
+use Rattle.model.specs.Price.{dataCycles}
+use Rattle.model.specs.Video.{objVramBase, isObjVram}
+use Rattle.model.specs.Load.{byteIn, sramByte, biosByte, load8, load16, load32}
+use Rattle.model.specs.Store.{put, putHalf, target, modeOf, puts8, puts16, putsPair, puts32}
+use Rattle.model.specs.Step.{Media, State, Result, setWaitcnt, codeHits, codeFetched, halfAt, count, run, freshBoard}
+use Rattle.model.specs.declared.Lengths.{Lengths}
+use Rattle.model.specs.declared.Answer.{Answer}
+use Rattle.model.specs.declared.Region.the-variants.{Ewram, Vram}
+use Rattle.model.specs.declared.AccessSize.the-variants.{Byte, Half, Word}
+use Rattle.model.specs.declared.IsaState.the-variants.{Arm, Thumb}
+use Rattle.model.specs.declared.Step.{Step}
+use Rattle.model.specs.declared.Step.the-variants.{Read, Write, Waitcnt, Idle, Restart, Instruction}
+
+-- to unfold this is to unfold the whole machine
+unfoldable pub machine : Unit {0}
+unfolding decode vramOffset ioOffset written prefetchEnable nWaits sWaits romWaits window kindAt romHalfCycles setEnabled restart startBeat arrived ended advance ready tick1 ticks arrives filled hit taken fetched armInternal thumbInternal romHalf plainFetch fetchCycles cartIdle disableBug priceInsn dataCycles objVramBase isObjVram byteIn sramByte biosByte load8 load16 load32 put putHalf target modeOf puts8 puts16 putsPair puts32 setWaitcnt codeHits codeFetched halfAt count run
+machine = tt
+
+-- ---- a run from the fresh board
+
+-- memories of these lengths, no BIOS and no ROM
+abbrev pub media : (io vram sram : ℕ) → Media
+media io vram sram =
+    record { bios = []; rom = []; lengths = record { ewram = 0; iwram = 0; io = io; palette = 0; vram = vram; oam = 0; sram = sram } }
+
+abbrev pub from : Media → List ℕ → List Step → Result
+from m s xs = run m (record { board = freshBoard; store = s }) xs
+
+-- with no memory at all
+abbrev pub bare : List Step → Result
+bare xs = from (media 0 0 0) [] xs
+
+abbrev pub cyclesIn : Result → List ℕ
+cyclesIn r = map (λ (x : Answer). x .cycles) (r .answers)
+
+abbrev pub countsIn : Result → List ℕ
+countsIn r = map (λ (x : Answer). x .count) (r .answers)
+
+abbrev pub valuesIn : Result → List ℕ
+valuesIn r = map (λ (x : Answer). x .value) (r .answers)
+
+-- ---- the figures
+
+pub record WorkedFigures : Type 0 where
+  pub ewram-mirror : (decode 0x0204_0005 ≡ Ewram) × (ewramOffset 0x0204_0005 ≡ 5)
+  pub vram-mirror : (decode 0x0601_8000 ≡ Vram) × (vramOffset 0x0601_8000 ≡ 0x10000)
+  pub waitcnt-bits : (bare (Waitcnt 0xFFFF ∷ [])) .state .board .clock .waitcnt ≡ 0x5FFF
+  pub idle-27 : countsIn (bare (Waitcnt 0x4000 ∷ Restart 0x0800_0100 ∷ Idle 27 ∷ [])) ≡ 0 ∷ 0 ∷ 7 ∷ []
+  pub idle-28 : countsIn (bare (Waitcnt 0x4000 ∷ Restart 0x0800_0100 ∷ Idle 28 ∷ [])) ≡ 0 ∷ 0 ∷ 8 ∷ []
+  pub arm-in-block : cyclesIn (bare (Instruction Arm 0x0800_0100 0xE1A0_0000 false ∷ [])) ≡ 6 ∷ []
+  pub arm-at-block : cyclesIn (bare (Instruction Arm 0x0800_0000 0xE1A0_0000 false ∷ [])) ≡ 8 ∷ []
+  pub dearest : cyclesIn (bare (Waitcnt 0x0300 ∷ Instruction Arm 0x0C00_0100 0xE591_0000 false ∷ [])) ≡ 0 ∷ 19 ∷ []
+  pub pop-at-bc : cyclesIn (bare (Instruction Thumb 0x0300_0000 0xBC01 false ∷ [])) ≡ 1 ∷ []
+  pub pop-at-ba : cyclesIn (bare (Instruction Thumb 0x0300_0000 0xBA01 false ∷ [])) ≡ 2 ∷ []
+  pub bx : cyclesIn (bare (Instruction Arm 0x0300_0000 0xE12F_FF1E false ∷ [])) ≡ 2 ∷ []
+  -- the store is SRAM alone
+  pub sram-half : (sram : List ℕ) → (from (media 0 0 8192) sram (Write Half 0x0E00_0001 0x1234 ∷ [])) .state .store ≡ set sram 1 0x12
+  pub rom-end : valuesIn (bare (Read Word 0x0DFF_FFFE ∷ [])) ≡ 0xFFFF_0000 ∷ []
+  -- the store is one byte of I/O, which holds the mode, and VRAM
+  pub object-mode-0 : (vram : List ℕ) → (from (media 1 98304 0) (0 ∷ vram) (Write Byte 0x0601_0000 0x5A ∷ [])) .state .store ≡ 0 ∷ vram
+  pub bitmap-mode-3 : (vram : List ℕ)
+      → (from (media 1 98304 0) (3 ∷ vram) (Write Byte 0x0601_0000 0x5A ∷ [])) .state .store ≡ 3 ∷ set (set vram 0x10000 0x5A) 0x10001 0x5A
+  pub object-mode-3 : (vram : List ℕ) → (from (media 1 98304 0) (3 ∷ vram) (Write Byte 0x0601_4000 0x5A ∷ [])) .state .store ≡ 3 ∷ vram
+
+pub worked-figures : WorkedFigures
+unfolding machine
+worked-figures =
+    record {
+      ewram-mirror = (refl, refl);
+      vram-mirror = (refl, refl);
+      waitcnt-bits = refl;
+      idle-27 = refl;
+      idle-28 = refl;
+      arm-in-block = refl;
+      arm-at-block = refl;
+      dearest = refl;
+      pop-at-bc = refl;
+      pop-at-ba = refl;
+      bx = refl;
+      sram-half = λ sram. refl;
+      rom-end = refl;
+      object-mode-0 = λ vram. refl;
+      bitmap-mode-3 = λ vram. refl;
+      object-mode-3 = λ vram. refl;
+    }
