@@ -122,9 +122,13 @@ filled read t (suc n) p h = filled read t n (tick1 t p) (if arrives t p then set
 
 -- ---- opcode fetches
 
+-- the switch is on and a halfword stands
+unfoldable pub occupied : PrefetchBuffer → Bool
+occupied p = p .enabled && not (eqb (p .count) 0)
+
 -- the halfword at an address is the head of the buffer
 unfoldable pub hit : PrefetchBuffer → ℕ → Bool
-hit p a = p .enabled && not (eqb (p .count) 0) && eqb (lowered 2 a) (p .«head_addr»)
+hit p a = occupied p && eqb (lowered 2 a) (p .«head_addr»)
 
 -- the head's halfword is taken
 unfoldable pub taken : PrefetchBuffer → PrefetchBuffer
@@ -142,4 +146,4 @@ taken p =
 
 -- a fetch elsewhere drains, but not when the buffer is off or empty
 unfoldable pub fetched : PrefetchBuffer → ℕ → PrefetchBuffer
-fetched p a = if hit p a then taken p else if p .enabled && not (eqb (p .count) 0) then drained p else p
+fetched p a = if hit p a then taken p else if occupied p then drained p else p

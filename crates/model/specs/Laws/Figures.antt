@@ -9,7 +9,7 @@ use Rattle.model.specs.Region.{decode}
 use Rattle.model.specs.Mirror.{ewramOffset, vramOffset, ioOffset}
 use Rattle.model.specs.Waitcnt.{written, prefetchEnable, nWaits, sWaits, romWaits}
 use Rattle.model.specs.Wait.{window, kindAt, romHalfCycles}
-use Rattle.model.specs.Prefetch.{setEnabled, restart, startBeat, arrived, ended, advance, ready, tick1, ticks, arrives, filled, hit, taken, fetched}
+use Rattle.model.specs.Prefetch.{setEnabled, restart, startBeat, arrived, ended, advance, ready, tick1, ticks, arrives, filled, occupied, hit, taken, fetched}
 use Rattle.model.specs.DisableBug.{armInternal, thumbInternal}
 use Rattle.model.specs.Timing.{romHalf, plainFetch, fetchCycles, cartIdle, disableBug, priceInsn}
 use Rattle.model.specs.Price.{dataCycles}
@@ -27,7 +27,7 @@ use Rattle.model.specs.declared.Step.the-variants.{Read, Write, Waitcnt,
 
 -- to unfold this is to unfold the whole machine
 unfoldable pub machine : Unit {0}
-unfolding decode vramOffset ioOffset written prefetchEnable nWaits sWaits romWaits window kindAt romHalfCycles setEnabled restart startBeat arrived ended advance ready tick1 ticks arrives filled hit taken fetched armInternal thumbInternal romHalf plainFetch fetchCycles cartIdle disableBug priceInsn dataCycles objVramBase isObjVram byteIn sramByte biosByte load8 load16 load32 put putHalf target modeOf puts8 puts16 putsPair puts32 setWaitcnt codeHits codeFetched halfAt count run
+unfolding decode vramOffset ioOffset written prefetchEnable nWaits sWaits romWaits window kindAt romHalfCycles setEnabled restart startBeat arrived ended advance ready tick1 ticks arrives filled occupied hit taken fetched armInternal thumbInternal romHalf plainFetch fetchCycles cartIdle disableBug priceInsn dataCycles objVramBase isObjVram byteIn sramByte biosByte load8 load16 load32 put putHalf target modeOf puts8 puts16 putsPair puts32 setWaitcnt codeHits codeFetched halfAt count run
 machine = tt
 
 -- ---- a run from the fresh board

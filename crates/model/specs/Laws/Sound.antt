@@ -8,7 +8,7 @@ use borrow.Author.Tests.{not-true}
 use Rattle.model.specs.Base.{if_then_else_, further, lowered}
 use Rattle.model.specs.Waitcnt.{Waits, written, prefetchEnable}
 use Rattle.model.specs.Wait.{window, inWindow, kindAt, nonseqIf, romHalfCycles}
-use Rattle.model.specs.Prefetch.{capacity, emptied, newBuffer, drained, setEnabled, restartIn, restart, beatIn, startBeat, arrived, ended, withWait, advance, ready, tick1, ticks, hit, taken, fetched}
+use Rattle.model.specs.Prefetch.{capacity, emptied, newBuffer, drained, setEnabled, restartIn, restart, beatIn, startBeat, arrived, ended, withWait, advance, ready, tick1, ticks, occupied, hit, taken, fetched}
 use Rattle.model.specs.Step.{waitsOf, withPrefetch, setWaitcnt, priced, romFetched, fetchedIn, codeFetched, clockAfter, freshBoard}
 use Rattle.model.specs.Laws.Choice.{choose, either, never, tests, eqb-ne, and-true-left, and-true-right, parts}
 use Rattle.model.specs.Laws.Window.{InRom, inWindow-true, window-in}
@@ -198,7 +198,7 @@ module _ (t : Waits) (small : SmallWaits t) where
   ticks-sound (suc n) p s = ticks-sound n (tick1 t p) (tick1-sound p s)
 
 pub fetched-sound : (p : PrefetchBuffer) (a : ℕ) → Sound p → Sound (fetched p a)
-unfolding fetched hit taken
+unfolding fetched hit occupied taken
 fetched-sound p a s =
     choose Sound (p .enabled && not (eqb (p .count) 0) && eqb (lowered 2 a) (p .«head_addr»))
     (λ e.
@@ -221,7 +221,7 @@ fetched-sound p a s =
           (λ t. omega (arith, tests));
       off = never on;
     })
-    (λ e. either Sound (p .enabled && not (eqb (p .count) 0)) (emptied-sound (p .enabled)) s)
+    (λ e. either Sound (occupied p) (emptied-sound (p .enabled)) s)
 
 pub setEnabled-sound : (on : Bool) (p : PrefetchBuffer) → Sound p → Sound (setEnabled on p)
 unfolding setEnabled

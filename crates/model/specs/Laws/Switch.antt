@@ -2,11 +2,11 @@
 use mathlib.Core.Path.{_≡_, refl, sym, _∙_}
 use mathlib.Core.Bool.{Bool, true, false, not, _&&_}
 use Prim.Native.Nat.{ℕ, zero, suc, _+_, _/_, _%_, _^_}
-use lib.Dec.{ltb, leb, eqb}
+use lib.Dec.{ltb, leb}
 use Rattle.model.specs.Base.{if_then_else_, further, lowered}
 use Rattle.model.specs.Waitcnt.{Waits}
 use Rattle.model.specs.Wait.{window, inWindow}
-use Rattle.model.specs.Prefetch.{capacity, setEnabled, restartIn, restart, beatIn, startBeat, arrived, ended, advance, ready, tick1, ticks, hit, taken, fetched}
+use Rattle.model.specs.Prefetch.{capacity, setEnabled, restartIn, restart, beatIn, startBeat, arrived, ended, advance, ready, tick1, ticks, occupied, hit, taken, fetched}
 use Rattle.model.specs.Step.{waitsOf, romFetched, fetchedIn, codeFetched}
 use Rattle.model.specs.Laws.Choice.{choose, either}
 use Rattle.model.specs.declared.PrefetchBuffer.{PrefetchBuffer}
@@ -65,7 +65,7 @@ module _ (t : Waits) where
 
 pub fetched-switch : (p : PrefetchBuffer) (a : ℕ) → (fetched p a) .enabled ≡ p .enabled
 unfolding fetched taken
-fetched-switch p a = either (Keeps p) (hit p a) refl (either (Keeps p) (p .enabled && not (eqb (p .count) 0)) refl refl)
+fetched-switch p a = either (Keeps p) (hit p a) refl (either (Keeps p) (occupied p) refl refl)
 
 romFetched-switch : (t : Waits) (p : PrefetchBuffer) (a : ℕ) (isa : IsaState) → Keeps p (romFetched t p a isa)
 romFetched-switch t p a Thumb =
