@@ -31,6 +31,10 @@ romOffset a = a % romSize
 abbrev pub sramOffset : ℕ → ℕ
 sramOffset a = a % sramSize
 
+-- the place in a chip of 32 KiB, which the bus doesn't use: it takes the chip's own length
+abbrev pub sramChipOffset : ℕ → ℕ
+sramChipOffset a = a % 0x8000
+
 -- the word at 0x800 repeats every 64 KiB of page 4; the other registers stand once, at 0x04000000 to 0x040003FF
 unfoldable pub ioOffset : ℕ → Offset
 ioOffset a =
