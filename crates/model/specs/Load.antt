@@ -122,6 +122,10 @@ isSram UnusedHigh = false
 unfoldable pub load16 : Bus → ℕ → ℕ
 load16 b a = if isSram (decode a) then 0x0101 * load8 b a else load8 b a + 0x100 * load8 b (further 1 a)
 
+-- a halfword load inside the ROM windows, which is all that the prefetch reads
+unfoldable pub romHalfword : List ℕ → ℕ → ℕ
+romHalfword rom a = byteAt rom (romOffset a) + 0x100 * byteAt rom (romOffset (further 1 a))
+
 -- a word is two halfword loads
 unfoldable pub load32 : Bus → ℕ → ℕ
 load32 b a = if isSram (decode a) then 0x0101_0101 * load8 b a else load16 b a + 0x1_0000 * load16 b (further 2 a)

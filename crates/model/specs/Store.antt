@@ -125,17 +125,26 @@ halfwords fill Byte = bit fill
 halfwords fill Half = 1
 halfwords fill Word = 2
 
+abbrev pub videoCount : ℕ → AccessSize → Target → ℕ
+videoCount mode z Dropped = 0
+videoCount mode z (Plain p i) = 0
+videoCount mode z (Video m p i) = halfwords (fills mode m i) z
+videoCount mode z (Sram p i) = 0
+
 abbrev pub videoIndex : VideoMemory → ℕ
 videoIndex PaletteRam = 0
 videoIndex VideoRam = 1
 videoIndex ObjectRam = 2
 
--- what a store adds to the counter of one of the video memories
+-- whether a store goes to one of the video memories, whose counter then takes its count
+abbrev pub goesTo : VideoMemory → Target → Bool
+goesTo which Dropped = false
+goesTo which (Plain p i) = false
+goesTo which (Video m p i) = eqb (videoIndex which) (videoIndex m)
+goesTo which (Sram p i) = false
+
 abbrev pub countAt : VideoMemory → ℕ → AccessSize → Target → ℕ
-countAt which mode z Dropped = 0
-countAt which mode z (Plain p i) = 0
-countAt which mode z (Video m p i) = if eqb (videoIndex which) (videoIndex m) then halfwords (fills mode m i) z else 0
-countAt which mode z (Sram p i) = 0
+countAt which mode z t = if goesTo which t then videoCount mode z t else 0
 
 -- a counter stops at 2^64 - 1
 abbrev pub counted : ℕ → ℕ → ℕ

@@ -79,8 +79,11 @@ abbrev pub cyclesForWaits : ℕ → ℕ
 cyclesForWaits n = 1 + n
 
 -- one halfword from ROM
+abbrev pub romHalfWaits : Waits → RomWindow → AccessKind → ℕ
+romHalfWaits t win k = getD (getD t (windowIndex win) []) (kindIndex k) 0
+
 unfoldable pub romHalfCycles : Waits → RomWindow → AccessKind → ℕ
-romHalfCycles t win k = cyclesForWaits (getD (getD t (windowIndex win) []) (kindIndex k) 0)
+romHalfCycles t win k = cyclesForWaits (romHalfWaits t win k)
 
 -- the same, under the rule of 0x20000
 abbrev pub romHalfCyclesAt : Waits → ℕ → RomWindow → AccessKind → ℕ

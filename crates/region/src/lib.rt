@@ -1,20 +1,30 @@
 // The memory map: which region an address lies in, how wide its bus is and how large its memory. Port of src/bus/region.rs;
 // `mirror` is src/bus/mirror.rs.
-use model::{BusWidth, Region, RegionSize, RegionWidth};
+use model::BusWidth;
+use model::Region;
+use model::RegionSize;
+use model::RegionWidth;
 ghost use mathlib.Core.Path.{_≡_};
 ghost use Rattle.model.specs.Region as map;
 
 pub mod mirror;
 
 pub const BIOS_SIZE: usize = 0x4000;
+
 pub const EWRAM_SIZE: usize = 0x40000;
+
 pub const IWRAM_SIZE: usize = 0x8000;
 // The registers and the word at 0x800.
 pub const IO_SIZE: usize = 0x804;
+
 pub const PALETTE_SIZE: usize = 0x400;
+
 pub const VRAM_SIZE: usize = 0x18000;
+
 pub const OAM_SIZE: usize = 0x400;
+
 pub const ROM_WINDOW_SIZE: usize = 0x200_0000;
+
 pub const SRAM_WINDOW_SIZE: usize = 0x10000;
 
 // The region of an address, by its top byte.

@@ -1,10 +1,7 @@
-use native.Mathlib.Omega.{arith}
+-- `model::Board::fresh` meets its contract: the prefetch buffer is what `new` ensures. Assumes nothing.
 use borrow.Author.Needs.{needs}
 use Rattle.model.proofs.Board.fresh.Statement.{statement}
 use Rattle.model.proofs.Board.fresh.Tie as tie
-use Rattle.model.proofs.Board.fresh.Reads as reads
-use Rattle.model.proofs.Board.fresh.Lts as lts
-use Rattle.model.proofs.PrefetchBuffer.new.Reads as new-reads
 
 new-requires : tie.Need-new-requires
 new-requires c κs = search needs
