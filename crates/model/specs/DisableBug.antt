@@ -4,6 +4,9 @@
 use mathlib.Core.Bool.{Bool, true, false, not, _&&_, _||_}
 use Prim.Native.Nat.{ℕ, _/_, _%_, _^_}
 use lib.Dec.{eqb}
+use Rattle.model.specs.Base.{if_then_else_}
+use Rattle.model.specs.declared.AccessKind.{AccessKind}
+use Rattle.model.specs.declared.AccessKind.the-variants.{Nonseq, Seq}
 
 -- the `w` bits of an opcode from bit `k` on are `v`
 abbrev pub bitsAre : ℕ → ℕ → ℕ → ℕ → Bool
@@ -14,23 +17,23 @@ bitsAre raw k w v = eqb (raw / 2 ^ k % 2 ^ w) v
 
 -- MUL, MLA: bits 27-22 are 000000, bits 7-4 are 1001
 abbrev pub armMul : ℕ → Bool
-armMul raw = bitsAre raw 22 6 0 && bitsAre raw 4 4 9
+armMul raw = bitsAre raw 4 4 9 && bitsAre raw 22 6 0
 
 -- LDR of a word: bits 27-26 are 01, B (22) is 0, L (20) is 1
 abbrev pub armLdr : ℕ → Bool
-armLdr raw = bitsAre raw 26 2 1 && bitsAre raw 22 1 0 && bitsAre raw 20 1 1
+armLdr raw = bitsAre raw 20 1 1 && (bitsAre raw 22 1 0 && bitsAre raw 26 2 1)
 
 -- LDM: bits 27-25 are 100, L (20) is 1
 abbrev pub armLdm : ℕ → Bool
-armLdm raw = bitsAre raw 25 3 4 && bitsAre raw 20 1 1
+armLdm raw = bitsAre raw 20 1 1 && bitsAre raw 25 3 4
 
 -- SWP, SWPB: bits 27-23 are 00010, bits 21-20 are 00, bits 11-4 are 00001001
 abbrev pub armSwp : ℕ → Bool
-armSwp raw = bitsAre raw 23 5 2 && bitsAre raw 20 2 0 && bitsAre raw 4 8 9
+armSwp raw = bitsAre raw 4 8 9 && (bitsAre raw 20 2 0 && bitsAre raw 23 5 2)
 
 -- data processing with a shift by register: bits 27-25 are 000, bit 7 is 0, bit 4 is 1; departure: BX is one of these
 abbrev pub armShiftRs : ℕ → Bool
-armShiftRs raw = bitsAre raw 25 3 0 && bitsAre raw 7 1 0 && bitsAre raw 4 1 1
+armShiftRs raw = bitsAre raw 4 1 1 && (bitsAre raw 7 1 0 && bitsAre raw 25 3 0)
 
 unfoldable pub armInternal : ℕ → Bool
 armInternal raw = armMul raw || armLdr raw || armLdm raw || armSwp raw || armShiftRs raw
@@ -46,3 +49,7 @@ thumbInternal raw =
 -- Departure: GBATEK has the bug on the opcode's own fetch.
 abbrev pub forceNextFetchNonseq : Bool → Bool → Bool → Bool → Bool
 forceNextFetchNonseq prefetchOn codeInRom hadInternal pcChanged = not prefetchOn && codeInRom && hadInternal && not pcChanged
+
+-- the kind of the fetch that follows
+unfoldable pub nextOpcodeAccessKind : Bool → Bool → AccessKind
+nextOpcodeAccessKind forced sequential = if forced then Nonseq else if sequential then Seq else Nonseq
