@@ -7,9 +7,10 @@ use mathlib.Core.List.{List, [], _∷_, map}
 use Prim.Native.Nat.{ℕ, zero, suc, _+_, _*_, _≤_, _<_}
 use lib.Dec.{eqb}
 use Rattle.model.specs.Base.{if_then_else_, bit, sum, byteAt, number}
-use Rattle.model.specs.Sheet.{SheetRecord, recordAt, recordCount, recordsOf}
+use Rattle.model.specs.Sheet.{recordAt, recordCount, recordsOf}
 use Rattle.model.specs.BoardBytes.{boardLength}
 use Rattle.model.specs.Outcome.{Lent, Outcome, outcome}
+use Rattle.model.specs.declared.SheetRecord.{SheetRecord}
 
 -- ---- alike
 

@@ -46,7 +46,6 @@ halvesFrom b i (suc n) = number 2 b i ∷ halvesFrom b (i + 2) n
 unfoldable pub contentsOf : List ℕ → Contents
 contentsOf b =
     record {
-      halves = halvesFrom b 20 8;
       «cpu_pc» = number 4 b 36;
       «last_bios_opcode» = number 4 b 40;
       «vram_write_count» = number 8 b 44;
@@ -55,7 +54,7 @@ contentsOf b =
     }
 
 abbrev pub boardOf : List ℕ → Board
-boardOf b = record { clock = clockOf b; contents = contentsOf b }
+boardOf b = record { clock = clockOf b; halves = halvesFrom b 20 8; contents = contentsOf b }
 
 -- ---- to bytes
 
@@ -87,7 +86,7 @@ contentsFields d =
 
 unfoldable pub boardBytes : Board → List ℕ
 boardBytes b =
-    encoded (clockFields (b .clock)) ++ (encoded (map (field 2) (b .contents .halves)) ++ encoded (contentsFields (b .contents)))
+    encoded (clockFields (b .clock)) ++ (encoded (map (field 2) (b .halves)) ++ encoded (contentsFields (b .contents)))
 
 -- ---- a sound board
 

@@ -2,7 +2,7 @@
 -- From document 01, "Records (added)": "Sheet" is its word for the list of steps that a run is given.
 use mathlib.Core.Bool.{Bool, true, false, not, _&&_, _||_}
 use mathlib.Core.List.{List, [], _∷_, map}
-use Prim.Native.Nat.{ℕ, zero, suc, _+_, _*_}
+use Prim.Native.Nat.{ℕ, zero, suc, _+_, _*_, _%_}
 use lib.ListN.{length}
 use lib.Dec.{eqb, ltb, leb}
 use Rattle.model.specs.Base.{if_then_else_, byteAt, number}
@@ -10,6 +10,7 @@ use Rattle.model.specs.declared.AccessSize.{AccessSize}
 use Rattle.model.specs.declared.AccessSize.the-variants.{Byte, Half, Word}
 use Rattle.model.specs.declared.IsaState.{IsaState}
 use Rattle.model.specs.declared.IsaState.the-variants.{Arm, Thumb}
+use Rattle.model.specs.declared.SheetRecord.{SheetRecord}
 use Rattle.model.specs.declared.Step.{Step}
 use Rattle.model.specs.declared.Step.the-variants.{Read, Write, Waitcnt, Idle, Fetch, Restart, Instruction, Pc, Latch}
 
@@ -33,21 +34,13 @@ isShaped s = eqb (byteAt s 5) 0 && leb (recordCount s) maxRecords && eqb (length
 
 -- ---- a record: 12 bytes
 
-pub record SheetRecord : Type 0 where
-  pub kind : ℕ
-  pub size : ℕ
-  pub flag : ℕ
-  pub zeroByte : ℕ
-  pub address : ℕ
-  pub value : ℕ
-
 unfoldable pub recordAt : List ℕ → ℕ → SheetRecord
 recordAt s k =
     record {
       kind = byteAt s (8 + 12 * k);
       size = byteAt s (8 + 12 * k + 1);
       flag = byteAt s (8 + 12 * k + 2);
-      zeroByte = byteAt s (8 + 12 * k + 3);
+      «zero_byte» = byteAt s (8 + 12 * k + 3);
       address = number 4 s (8 + 12 * k + 4);
       value = number 4 s (8 + 12 * k + 8);
     }
@@ -60,7 +53,7 @@ recordsFrom s k (suc n) = recordAt s k ∷ recordsFrom s (k + 1) n
 abbrev pub recordsOf : List ℕ → List SheetRecord
 recordsOf s = recordsFrom s 0 (recordCount s)
 
--- ---- the step of a record without fault. Kinds: 1 READ, 2 WRITE, 3 WAITCNT, 4 IDLE, 5 FETCH, 6 RESTART, 7 INSTRUCTION, 8 PC, 9 LATCH
+-- ---- the step of a record without fault, whose WAITCNT value has 16 bits. Kinds: 1 READ, 2 WRITE, 3 WAITCNT, 4 IDLE, 5 FETCH, 6 RESTART, 7 INSTRUCTION, 8 PC, 9 LATCH
 
 unfoldable pub accessSize : ℕ → AccessSize
 accessSize size = if eqb size 1 then Byte else if eqb size 2 then Half else Word
@@ -72,7 +65,7 @@ unfoldable pub stepOf : SheetRecord → Step
 stepOf r =
     if eqb (r .kind) 1 then Read (accessSize (r .size)) (r .address)
     else if eqb (r .kind) 2 then Write (accessSize (r .size)) (r .address) (r .value)
-    else if eqb (r .kind) 3 then Waitcnt (r .value)
+    else if eqb (r .kind) 3 then Waitcnt (r .value % 0x1_0000)
     else if eqb (r .kind) 4 then Idle (r .value)
     else if eqb (r .kind) 5 then Fetch (r .address)
     else if eqb (r .kind) 6 then Restart (r .address)
@@ -108,7 +101,7 @@ usesValue kind = eqb kind 2 || eqb kind 3 || eqb kind 4 || eqb kind 7 || eqb kin
 -- a field that a kind doesn't use is 0; the flag is 0 or 1, and WAITCNT's value has 16 bits
 unfoldable pub fieldFault : SheetRecord → Bool
 fieldFault r =
-    not (eqb (r .zeroByte) 0
+    not (eqb (r .«zero_byte») 0
     && (usesFlag (r .kind) || eqb (r .flag) 0)
     && leb (r .flag) 1
     && (usesAddress (r .kind) || eqb (r .address) 0)
@@ -118,7 +111,11 @@ fieldFault r =
 abbrev pub faulty : SheetRecord → Bool
 faulty r = kindFault r || fieldFault r
 
--- the number of records before the first faulty one: all of them where there is none
-unfoldable pub leastFaulty : List SheetRecord → ℕ
-leastFaulty [] = 0
-leastFaulty (r ∷ rs) = let n = leastFaulty rs in if faulty r then 0 else suc n
+-- the number of records before the first that a test finds: all of them where there is none
+unfoldable pub firstOf : (SheetRecord → Bool) → List SheetRecord → ℕ
+firstOf f [] = 0
+firstOf f (r ∷ rs) = let n = firstOf f rs in if f r then 0 else suc n
+
+-- the least faulty record
+abbrev pub leastFaulty : List SheetRecord → ℕ
+leastFaulty rs = firstOf faulty rs

@@ -157,7 +157,7 @@ busOf m s =
 
 -- the halfword that an opcode fetch finds, 0 on a miss
 unfoldable pub halfAt : Board → ℕ → ℕ
-halfAt b a = if hit (b .clock .prefetch) a then getD (b .contents .halves) (b .clock .prefetch .head) 0 else 0
+halfAt b a = if hit (b .clock .prefetch) a then getD (b .halves) (b .clock .prefetch .head) 0 else 0
 
 abbrev pub value : Media → State → Step → ℕ
 value m s (Read z a) = load (busOf m s) z a
@@ -170,21 +170,21 @@ value m s (Instruction isa a op changed) = (priced (s .board .clock) isa a op ch
 value m s (Pc a) = 0
 value m s (Latch v) = 0
 
-abbrev pub withHalves : Contents → List ℕ → Contents
-withHalves d h =
-    record {
-      halves = h;
-      «cpu_pc» = d .«cpu_pc»;
-      «last_bios_opcode» = d .«last_bios_opcode»;
-      «vram_write_count» = d .«vram_write_count»;
-      «oam_write_count» = d .«oam_write_count»;
-      «palette_write_count» = d .«palette_write_count»;
-    }
-
 -- the halfwords after n idle cycles from a buffer; the prefetch reads with the bus's halfword load
-abbrev pub refilled : Media → State → ℕ → PrefetchBuffer → Contents
-refilled m s n p =
-    withHalves (s .board .contents) (filled (load16 (busOf m s)) (waitsOf (s .board .clock)) n p (s .board .contents .halves))
+abbrev pub refilled : Media → State → ℕ → PrefetchBuffer → List ℕ
+refilled m s n p = filled (load16 (busOf m s)) (waitsOf (s .board .clock)) n p (s .board .halves)
+
+abbrev pub halvesAfter : Media → State → Step → List ℕ
+halvesAfter m s (Read z a) = s .board .halves
+halvesAfter m s (Write z a v) = s .board .halves
+halvesAfter m s (Waitcnt v) = s .board .halves
+halvesAfter m s (Idle n) = refilled m s n (s .board .clock .prefetch)
+halvesAfter m s (Fetch a) = s .board .halves
+halvesAfter m s (Restart a) = s .board .halves
+halvesAfter m s (Instruction isa a op changed) =
+    refilled m s ((priced (s .board .clock) isa a op changed) .«cart_idle») (codeFetched (s .board .clock) isa a)
+halvesAfter m s (Pc a) = s .board .halves
+halvesAfter m s (Latch v) = s .board .halves
 
 -- what a store adds to the counter of one video memory
 unfoldable pub count : VideoMemory → Media → State → AccessSize → ℕ → ℕ
@@ -194,7 +194,6 @@ abbrev pub contentsAfter : Media → State → Step → Contents
 contentsAfter m s (Read z a) = s .board .contents
 contentsAfter m s (Write z a v) =
     record {
-      halves = s .board .contents .halves;
       «cpu_pc» = s .board .contents .«cpu_pc»;
       «last_bios_opcode» = s .board .contents .«last_bios_opcode»;
       «vram_write_count» = counted (s .board .contents .«vram_write_count») (count VideoRam m s z a);
@@ -202,14 +201,12 @@ contentsAfter m s (Write z a v) =
       «palette_write_count» = counted (s .board .contents .«palette_write_count») (count PaletteRam m s z a);
     }
 contentsAfter m s (Waitcnt v) = s .board .contents
-contentsAfter m s (Idle n) = refilled m s n (s .board .clock .prefetch)
+contentsAfter m s (Idle n) = s .board .contents
 contentsAfter m s (Fetch a) = s .board .contents
 contentsAfter m s (Restart a) = s .board .contents
-contentsAfter m s (Instruction isa a op changed) =
-    refilled m s ((priced (s .board .clock) isa a op changed) .«cart_idle») (codeFetched (s .board .clock) isa a)
+contentsAfter m s (Instruction isa a op changed) = s .board .contents
 contentsAfter m s (Pc a) =
     record {
-      halves = s .board .contents .halves;
       «cpu_pc» = a;
       «last_bios_opcode» = s .board .contents .«last_bios_opcode»;
       «vram_write_count» = s .board .contents .«vram_write_count»;
@@ -218,7 +215,6 @@ contentsAfter m s (Pc a) =
     }
 contentsAfter m s (Latch v) =
     record {
-      halves = s .board .contents .halves;
       «cpu_pc» = s .board .contents .«cpu_pc»;
       «last_bios_opcode» = v;
       «vram_write_count» = s .board .contents .«vram_write_count»;
@@ -242,7 +238,7 @@ storeAfter m s (Latch v) = s .store
 abbrev pub stepped : Media → State → Step → State
 stepped m s x =
     record {
-      board = record { clock = clockAfter (s .board .clock) x; contents = contentsAfter m s x };
+      board = record { clock = clockAfter (s .board .clock) x; halves = halvesAfter m s x; contents = contentsAfter m s x };
       store = storeAfter m s x;
     }
 
@@ -279,9 +275,9 @@ abbrev pub freshBoard : Board
 freshBoard =
     record {
       clock = record { waitcnt = 0; «force_next_fetch_n» = false; prefetch = newBuffer };
+      halves = replicate 8 0;
       contents =
           record {
-            halves = replicate 8 0;
             «cpu_pc» = 0;
             «last_bios_opcode» = 0;
             «vram_write_count» = 0;

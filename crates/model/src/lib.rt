@@ -132,7 +132,17 @@ pub struct InsnCycles {
 
 // ---- added: a step, and the state that a run carries
 
-// A record of a sheet, decoded: one variant for each of the nine kinds, in their order.
+// A record of a sheet: its 12 bytes as fields.
+pub struct SheetRecord {
+    pub kind: u8,
+    pub size: u8,
+    pub flag: u8,
+    pub zero_byte: u8,
+    pub address: u32,
+    pub value: u32,
+}
+
+// A record decoded: one variant for each of the nine kinds, in their order.
 pub enum Step {
     Read(AccessSize, u32),
     Write(AccessSize, u32, u32),
@@ -152,9 +162,8 @@ pub struct Clock {
     pub prefetch: PrefetchBuffer,
 }
 
-// The rest of a board: what loads and stores see or change.
+// What loads and stores see or change of a board.
 pub struct Contents {
-    pub halves: [u16; 8],
     pub cpu_pc: u32,
     pub last_bios_opcode: u32,
     pub vram_write_count: u64,
@@ -162,8 +171,10 @@ pub struct Contents {
     pub palette_write_count: u64,
 }
 
+// A board: its clock, the buffer's eight halfwords, and its contents.
 pub struct Board {
     pub clock: Clock,
+    pub halves: [u16; 8],
     pub contents: Contents,
 }
 
@@ -178,15 +189,19 @@ impl Board {
             force_next_fetch_n: false,
             prefetch,
         };
+        let halves = [0u16; 8];
         let contents = Contents {
-            halves: [0u16; 8],
             cpu_pc: 0,
             last_bios_opcode: 0,
             vram_write_count: 0,
             oam_write_count: 0,
             palette_write_count: 0,
         };
-        Board { clock, contents }
+        Board {
+            clock,
+            halves,
+            contents,
+        }
     }
 }
 

@@ -100,9 +100,11 @@ pub record ClockFits (c : Clock) : Type 0 where
   pub head-addr-fits : c .prefetch .«head_addr» < 2 ^ 32
   pub switch : c .prefetch .enabled ≡ prefetchEnable (c .waitcnt)
 
+pub record HalvesFit (h : List ℕ) : Type 0 where
+  pub eight : length h ≡ 8
+  pub halves-fit : (i : ℕ) → getD h i 0 < 0x1_0000
+
 pub record ContentsFits (d : Contents) : Type 0 where
-  pub eight : length (d .halves) ≡ 8
-  pub halves-fit : (i : ℕ) → getD (d .halves) i 0 < 0x1_0000
   pub pc-fits : d .«cpu_pc» < 2 ^ 32
   pub opcode-fits : d .«last_bios_opcode» < 2 ^ 32
   pub vram-fits : d .«vram_write_count» < 2 ^ 64
@@ -111,6 +113,7 @@ pub record ContentsFits (d : Contents) : Type 0 where
 
 pub record Fits (b : Board) : Type 0 where
   pub clock-fits : ClockFits (b .clock)
+  pub halves-fit : HalvesFit (b .halves)
   pub contents-fits : ContentsFits (b .contents)
 
 -- what is read from bytes fits them
@@ -128,10 +131,9 @@ decoded-fits b h =
             head-addr-fits = number-below 4 16 b h;
             switch = refl;
           };
+      halves-fit = record { eight = refl; halves-fit = halves-below b h 20 8 };
       contents-fits =
           record {
-            eight = refl;
-            halves-fit = halves-below b h 20 8;
             pc-fits = number-below 4 36 b h;
             opcode-fits = number-below 4 40 b h;
             vram-fits = number-below 8 44 b h;
@@ -164,7 +166,7 @@ unfolding boardBytes
 first-byte b = flag-byte (b .clock .prefetch .«first_beat»)
 
 -- Past the halfwords a place is known only once their number is.
-module _ (b : Board) (eight : length (b .contents .halves) ≡ 8) where
+module _ (b : Board) (eight : length (b .halves) ≡ 8) where
   pub board-length : length (boardBytes b) ≡ 72
   unfolding boardBytes
   board-length = simp (length-append, halfBytes-length, eight)
@@ -172,7 +174,7 @@ module _ (b : Board) (eight : length (b .contents .halves) ≡ 8) where
   past-halves : (n i : ℕ) → number n (boardBytes b) (36 + i) ≡ number n (encoded (contentsFields (b .contents))) i
   unfolding boardBytes
   past-halves n i =
-      let front : List ℕ = encoded (clockFields (b .clock)) ++ halfBytes (b .contents .halves) in
+      let front : List ℕ = encoded (clockFields (b .clock)) ++ halfBytes (b .halves) in
       let e : 36 ≡ length front = simp (halfBytes-length, eight) in
       rw e (number-past n front (encoded (contentsFields (b .contents))) i)
 
@@ -207,11 +209,14 @@ clock-back b k x =
     waitcnt-back : number 2 (bytes 2 (b .clock .waitcnt)) 0 ≡ b .clock .waitcnt
     waitcnt-back = number-fits 2 (b .clock .waitcnt) [] (k .waitcnt-fits)
 
-pub contents-back : (b : Board) → ContentsFits (b .contents) → contentsOf (boardBytes b) ≡ b .contents
-unfolding contentsOf boardBytes
-contents-back b k x =
+pub halves-back-in : (b : Board) → HalvesFit (b .halves) → halvesFrom (boardBytes b) 20 8 ≡ b .halves
+unfolding boardBytes
+halves-back-in b k = rw (k .eight) at (halves-back (b .halves) (encoded (contentsFields (b .contents))) (k .halves-fit))
+
+pub contents-back : (b : Board) → length (b .halves) ≡ 8 → ContentsFits (b .contents) → contentsOf (boardBytes b) ≡ b .contents
+unfolding contentsOf
+contents-back b eight k x =
     record {
-      halves = all-back x;
       «cpu_pc» = back 4 0 (b .contents .«cpu_pc») refl (k .pc-fits) x;
       «last_bios_opcode» = back 4 4 (b .contents .«last_bios_opcode») refl (k .opcode-fits) x;
       «vram_write_count» = back 8 8 (b .contents .«vram_write_count») refl (k .vram-fits) x;
@@ -222,15 +227,17 @@ contents-back b k x =
     tail : List ℕ
     tail = encoded (contentsFields (b .contents))
 
-    all-back : halvesFrom (halfBytes (b .contents .halves) ++ tail) 0 8 ≡ b .contents .halves
-    all-back = rw (k .eight) at (halves-back (b .contents .halves) tail (k .halves-fit))
-
     -- v stands in the n bytes i places past the halfwords
     back : (n i v : ℕ) → number n tail i ≡ number n (bytes n v ++ []) 0 → v < 256 ^ n → number n (boardBytes b) (36 + i) ≡ v
-    back n i v e h = past-halves b (k .eight) n i ∙ e ∙ number-fits n v [] h
+    back n i v e h = past-halves b eight n i ∙ e ∙ number-fits n v [] h
 
 pub decode-encode : (b : Board) → Fits b → boardOf (boardBytes b) ≡ b
-decode-encode b k x = record { clock = clock-back b (k .clock-fits) x; contents = contents-back b (k .contents-fits) x }
+decode-encode b k x =
+    record {
+      clock = clock-back b (k .clock-fits) x;
+      halves = halves-back-in b (k .halves-fit) x;
+      contents = contents-back b (k .halves-fit .eight) (k .contents-fits) x;
+    }
 
 -- ---- read, then written
 
@@ -269,7 +276,7 @@ bit-back (suc (suc v)) h = absurd (omega arith)
 
 -- the fields that are written are those that stood
 fields-read : (b : List ℕ) → WellFormed b
-    → clockFields (clockOf b) ++ (map (field 2) ((contentsOf b) .halves) ++ contentsFields (contentsOf b)) ≡ fieldsAt widths b 0
+    → clockFields (clockOf b) ++ (map (field 2) (halvesFrom b 20 8) ++ contentsFields (contentsOf b)) ≡ fieldsAt widths b 0
 unfolding clockOf contentsOf
 fields-read b k x =
     field 2 (number 2 b 0)

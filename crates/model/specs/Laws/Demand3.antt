@@ -4,7 +4,7 @@ use mathlib.Core.Path.{_≡_, refl, sym, ap, ap₂, _∙_}
 use mathlib.Core.Logic.{_≢_}
 use mathlib.Core.Bool.{Bool, true, false, _||_}
 use mathlib.Core.List.{List, [], _∷_, _++_, map}
-use Prim.Native.Nat.{ℕ, zero, suc, _+_, _-_, _*_, _^_, _≤_, _<_}
+use Prim.Native.Nat.{ℕ, zero, suc, _+_, _-_, _*_, _%_, _^_, _≤_, _<_}
 use native.Mathlib.Omega.{arith}
 use native.Mathlib.Nat.{add-assoc}
 use lib.ListN.{length, getD, drop, List·getD-append}
@@ -14,7 +14,7 @@ use borrow.Author.Tests.{eqb-true, eqb-false}
 use Rattle.model.specs.Base.{if_then_else_, bit, sum, byteAt, bytes, number, AllBytes, field, encoded}
 use Rattle.model.specs.Waitcnt.{prefetchEnable}
 use Rattle.model.specs.Step.{Media, State, Result, run, total, cycles, clockAfter, stepped, answer}
-use Rattle.model.specs.Sheet.{SheetRecord, recordAt, recordsFrom, recordCount, recordsOf, accessSize, isaState, stepOf, stepsOf}
+use Rattle.model.specs.Sheet.{recordAt, recordsFrom, recordCount, recordsOf, accessSize, isaState, stepOf, stepsOf}
 use Rattle.model.specs.BoardBytes.{clockOf, answerBytes, answersBytes}
 use Rattle.model.specs.Outcome.{Lent, LentBytes, Outcome, mediaOf, firstState, ran, outcomeBy, outcome}
 use Rattle.model.specs.Alike.{AlikeRecords, AlikeSheets, AlikeBoards, instructionsIn, accessesIn, idleCyclesIn, Limits, cyclesFrom, Demand3}
@@ -27,6 +27,7 @@ use Rattle.model.specs.Laws.Refusal.{was-accepted}
 use Rattle.model.specs.Laws.Codec.{number-past, number-fits, number-below}
 use Rattle.model.specs.declared.Clock.{Clock}
 use Rattle.model.specs.declared.Answer.{Answer}
+use Rattle.model.specs.declared.SheetRecord.{SheetRecord}
 use Rattle.model.specs.declared.Step.{Step}
 use Rattle.model.specs.declared.Step.the-variants.{Read, Write, Waitcnt, Idle, Fetch, Restart, Instruction, Pc, Latch}
 use Rattle.model.specs.declared.Verdict.the-variants.{Accepted}
@@ -37,13 +38,13 @@ abbrev Same : Step → Step → Type 0
 Same x y = erased x ≡ erased y
 
 same-step : (k z f a v u p q : ℕ) → (k ≢ 2 → k ≢ 9 → v ≡ u)
-    → Same (stepOf (record { kind = k; size = z; flag = f; zeroByte = p; address = a; value = v }))
-    (stepOf (record { kind = k; size = z; flag = f; zeroByte = q; address = a; value = u }))
+    → Same (stepOf (record { kind = k; size = z; flag = f; «zero_byte» = p; address = a; value = v }))
+    (stepOf (record { kind = k; size = z; flag = f; «zero_byte» = q; address = a; value = u }))
 unfolding stepOf
 same-step k z f a v u p q h =
     choose₂ Same (eqb k 1) (λ e. refl)
     λ e₁. choose₂ Same (eqb k 2) (λ e. refl)
-    λ e₂. choose₂ Same (eqb k 3) (λ e. ap Waitcnt (h (eqb-ne k 2 e₂) (omega (arith, tests))))
+    λ e₂. choose₂ Same (eqb k 3) (λ e. ap (λ (x : ℕ). Waitcnt (x % 0x1_0000)) (h (eqb-ne k 2 e₂) (omega (arith, tests))))
     λ e₃. choose₂ Same (eqb k 4) (λ e. ap Idle (h (eqb-ne k 2 e₂) (omega (arith, tests))))
     λ e₄. choose₂ Same (eqb k 5) (λ e. refl)
     λ e₅. choose₂ Same (eqb k 6) (λ e. refl)
@@ -53,9 +54,9 @@ same-step k z f a v u p q h =
 
 alike-step : (r s : SheetRecord) → AlikeRecords r s → erased (stepOf r) ≡ erased (stepOf s)
 alike-step r s h =
-    same-step (r .kind) (r .size) (r .flag) (r .address) (r .value) (s .value) (r .zeroByte) (s .zeroByte) (h .value)
-    ∙ ap₂ (λ (k z : ℕ). erased (stepOf (record { kind = k; size = z; flag = r .flag; zeroByte = s .zeroByte; address = r .address; value = s .value }))) (h .kind) (h .size)
-    ∙ ap₂ (λ (f a : ℕ). erased (stepOf (record { kind = s .kind; size = s .size; flag = f; zeroByte = s .zeroByte; address = a; value = s .value }))) (h .flag) (h .address)
+    same-step (r .kind) (r .size) (r .flag) (r .address) (r .value) (s .value) (r .«zero_byte») (s .«zero_byte») (h .value)
+    ∙ ap₂ (λ (k z : ℕ). erased (stepOf (record { kind = k; size = z; flag = r .flag; «zero_byte» = s .«zero_byte»; address = r .address; value = s .value }))) (h .kind) (h .size)
+    ∙ ap₂ (λ (f a : ℕ). erased (stepOf (record { kind = s .kind; size = s .size; flag = f; «zero_byte» = s .«zero_byte»; address = a; value = s .value }))) (h .flag) (h .address)
 
 alike-steps : (s t : List ℕ) (k n : ℕ) → ((j : ℕ) → j < k + n → AlikeRecords (recordAt s j) (recordAt t j))
     → map erased (map stepOf (recordsFrom s k n)) ≡ map erased (map stepOf (recordsFrom t k n))

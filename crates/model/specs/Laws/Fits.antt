@@ -71,7 +71,7 @@ written-bit13 b k =
 written-flag : (x : ℕ) (t : Bool) → x ≡ bit t → leb x 1 ≡ true
 written-flag x t e = le-leb x 1 (rw e (bit≤1 t))
 
-pub written-sound : (b : Board) → SoundClock (b .clock) → length (b .contents .halves) ≡ 8 → sound (boardBytes b) ≡ true
+pub written-sound : (b : Board) → SoundClock (b .clock) → length (b .halves) ≡ 8 → sound (boardBytes b) ≡ true
 unfolding sound soundBytes
 written-sound b k eight =
     and-true _ _
@@ -142,7 +142,7 @@ module _ (i : Lent) (lent : LentBytes i) (ok : (outcome i) .number ≡ 0) where
       rw (was-accepted i ok) (omega (arith, sum-fits ((ran i) .answers) answers-fit, answers-length i))
 
   pub board-sound : sound ((outcome i) .board) ≡ true
-  unfolding ran contentsOf
+  unfolding ran
   board-sound =
       ap (λ (o : Outcome). sound (o .board)) (was-accepted i ok)
       ∙ written-sound ((ran i) .state .board)

@@ -9,7 +9,7 @@ use lib.Dec.{eqb}
 use borrow.Author.Tests.{eqb-true}
 use Rattle.model.specs.Base.{if_then_else_, bit, sum, number, AllBytes}
 use Rattle.model.specs.Step.{cycles, clockAfter}
-use Rattle.model.specs.Sheet.{SheetRecord, recordAt, recordsFrom, stepOf}
+use Rattle.model.specs.Sheet.{recordAt, recordsFrom, stepOf}
 use Rattle.model.specs.Alike.{instructionsIn, accessesIn, idleCyclesIn, Limits}
 use Rattle.model.specs.Laws.Choice.{choose, either}
 use Rattle.model.specs.Laws.Bounds.{Between, instructions, accesses, idles, step-between}
@@ -17,6 +17,7 @@ use Rattle.model.specs.Laws.Codec.{number-below}
 use Rattle.model.specs.Laws.Timing.{timings, totalOf}
 use Rattle.model.specs.Laws.Run.{All}
 use Rattle.model.specs.declared.Clock.{Clock}
+use Rattle.model.specs.declared.SheetRecord.{SheetRecord}
 use Rattle.model.specs.declared.Step.{Step}
 
 -- what a record counts in I, A and D is what its step counts

@@ -1,20 +1,21 @@
 -- Number 0 exactly when no refusal's condition holds; a refused outcome has total 0 and leaves board, store and answers as lent.
 use mathlib.Core.Path.{_≡_, refl, sym, ap, _∙_}
-use mathlib.Core.Bool.{Bool, true, false, not, _&&_, true≢false, false≢true}
+use mathlib.Core.Bool.{Bool, true, false, not, _&&_, _||_, true≢false, false≢true}
 use mathlib.Core.Logic.{_≢_}
 use mathlib.Core.List.{List, [], _∷_}
-use Prim.Native.Nat.{ℕ, zero, suc, _+_, _*_, _≤_, _<_}
+use Prim.Native.Nat.{ℕ, zero, suc, _+_, _*_, _≤_, _<_, min}
 use native.Mathlib.Omega.{arith}
 use lib.ListN.{length, getD}
 use lib.Dec.{eqb, ltb}
 use borrow.Author.Tests.{not-true, not-false, le-ltb, lt-ltb, ltb-false}
 use Rattle.model.specs.Base.{if_then_else_}
-use Rattle.model.specs.Sheet.{SheetRecord, isMarked, versionOf, isShaped, recordCount, recordsOf, faulty, leastFaulty, recordsFrom}
+use Rattle.model.specs.Sheet.{isMarked, versionOf, isShaped, recordCount, faulty, firstOf, leastFaulty}
 use Rattle.model.specs.BoardBytes.{sound}
 use Rattle.model.specs.Outcome.{Lent, Outcome, lengthsFit, faultIndex, verdict, refusalNumber, outcomeBy, outcome}
-use Rattle.model.specs.Laws.Choice.{choose, if-true, if-false, tests, eqb-ne}
+use Rattle.model.specs.Laws.Choice.{choose, if-false, by-test}
 use Rattle.model.specs.declared.Refusal.{Refusal}
 use Rattle.model.specs.declared.Refusal.the-variants.{BadMark, BadVersion, BadShape, BadLengths, UnsoundBoard, ShortAnswers, FaultyRecord}
+use Rattle.model.specs.declared.SheetRecord.{SheetRecord}
 use Rattle.model.specs.declared.Verdict.{Verdict}
 use Rattle.model.specs.declared.Verdict.the-variants.{Accepted, Refused}
 
@@ -112,23 +113,30 @@ refused-untouched i h = by-refusal i (verdict i) h
 
 -- ---- the least faulty record
 
-fine-first : (r : SheetRecord) (rs : List SheetRecord) (d : SheetRecord) (n : ℕ) → faulty r ≡ false
-    → ((k : ℕ) → k < n → faulty (getD rs k d) ≡ false) → (k : ℕ) → k < suc n → faulty (getD (r ∷ rs) k d) ≡ false
-fine-first r rs d n e f zero h = e
-fine-first r rs d n e f (suc k) h = f k (omega arith)
+fine-first : (f : SheetRecord → Bool) (r : SheetRecord) (rs : List SheetRecord) (d : SheetRecord) (n : ℕ) → f r ≡ false
+    → ((k : ℕ) → k < n → f (getD rs k d) ≡ false) → (k : ℕ) → k < suc n → f (getD (r ∷ rs) k d) ≡ false
+fine-first f r rs d n e g zero h = e
+fine-first f r rs d n e g (suc k) h = g k (omega arith)
 
--- no record before it is faulty
-pub fine-before : (rs : List SheetRecord) (d : SheetRecord) (k : ℕ) → k < leastFaulty rs → faulty (getD rs k d) ≡ false
-unfolding leastFaulty
-fine-before [] d = λ k h. absurd (omega arith)
-fine-before (r ∷ rs) d =
-    choose (λ (n : ℕ). (k : ℕ) → k < n → faulty (getD (r ∷ rs) k d) ≡ false) (faulty r) (λ e k h. absurd (omega arith))
-    (λ e. fine-first r rs d (leastFaulty rs) e (fine-before rs d))
+-- no record before it is found
+pub fine-before : (f : SheetRecord → Bool) (rs : List SheetRecord) (d : SheetRecord) (k : ℕ) → k < firstOf f rs → f (getD rs k d) ≡ false
+unfolding firstOf
+fine-before f [] d = λ k h. absurd (omega arith)
+fine-before f (r ∷ rs) d =
+    choose (λ (n : ℕ). (k : ℕ) → k < n → f (getD (r ∷ rs) k d) ≡ false) (f r) (λ e k h. absurd (omega arith))
+    (λ e. fine-first f r rs d (firstOf f rs) e (fine-before f rs d))
 
--- and it is faulty, if it is one of them
-pub faulty-there : (rs : List SheetRecord) (d : SheetRecord) → leastFaulty rs < length rs → faulty (getD rs (leastFaulty rs) d) ≡ true
-unfolding leastFaulty
-faulty-there [] d = λ h. absurd (omega arith)
-faulty-there (r ∷ rs) d =
-    choose (λ (n : ℕ). n < suc (length rs) → faulty (getD (r ∷ rs) n d) ≡ true) (faulty r) (λ e h. e)
-    (λ e h. faulty-there rs d (omega arith))
+-- and it is, if it is one of them
+pub found-there : (f : SheetRecord → Bool) (rs : List SheetRecord) (d : SheetRecord) → firstOf f rs < length rs → f (getD rs (firstOf f rs) d) ≡ true
+unfolding firstOf
+found-there f [] d = λ h. absurd (omega arith)
+found-there f (r ∷ rs) d =
+    choose (λ (n : ℕ). n < suc (length rs) → f (getD (r ∷ rs) n d) ≡ true) (f r) (λ e h. e) (λ e h. found-there f rs d (omega arith))
+
+-- the first that either of two tests finds is the lesser of what each finds: one pass or two
+pub first-either : (f g : SheetRecord → Bool) (rs : List SheetRecord) → firstOf (λ (r : SheetRecord). f r || g r) rs ≡ min (firstOf f rs) (firstOf g rs)
+unfolding firstOf
+first-either f g [] = omega arith
+first-either f g (r ∷ rs) =
+    by-test (f r) (λ e. simp e (omega arith))
+    (λ e. by-test (g r) (λ d. simp (e, d) (omega arith)) (λ d. simp (e, d) (omega (arith, first-either f g rs))))

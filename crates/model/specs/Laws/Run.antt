@@ -9,7 +9,7 @@ use Rattle.model.specs.Base.{if_then_else_}
 use Rattle.model.specs.Waitcnt.{Waits}
 use Rattle.model.specs.Prefetch.{tick1, ticks, arrives, slot, filled}
 use Rattle.model.specs.Store.{Put, landed, puts, modeOf}
-use Rattle.model.specs.Step.{Media, State, Result, run, stepped, answer, contentsAfter, storeAfter}
+use Rattle.model.specs.Step.{Media, State, Result, run, stepped, answer, halvesAfter, storeAfter}
 use Rattle.model.specs.Laws.Choice.{either}
 use Rattle.model.specs.Laws.Sound.{SoundClock, clockAfter-sound}
 use Rattle.model.specs.declared.PrefetchBuffer.{PrefetchBuffer}
@@ -72,14 +72,14 @@ landed-length : (s : List ℕ) (ps : List Put) → length (landed s ps) ≡ leng
 landed-length s [] = refl
 landed-length s (p ∷ ps) = landed-length (set s (p .place) (p .byte)) ps ∙ length-set s (p .place) (p .byte)
 
-step-halves : (m : Media) (s : State) (x : Step) → length ((contentsAfter m s x) .halves) ≡ length (s .board .contents .halves)
+step-halves : (m : Media) (s : State) (x : Step) → length (halvesAfter m s x) ≡ length (s .board .halves)
 step-halves m s (Read z a) = refl
 step-halves m s (Write z a v) = refl
 step-halves m s (Waitcnt v) = refl
-step-halves m s (Idle n) = filled-length _ _ n (s .board .clock .prefetch) (s .board .contents .halves)
+step-halves m s (Idle n) = filled-length _ _ n (s .board .clock .prefetch) (s .board .halves)
 step-halves m s (Fetch a) = refl
 step-halves m s (Restart a) = refl
-step-halves m s (Instruction isa a op changed) = filled-length _ _ _ _ (s .board .contents .halves)
+step-halves m s (Instruction isa a op changed) = filled-length _ _ _ _ (s .board .halves)
 step-halves m s (Pc a) = refl
 step-halves m s (Latch v) = refl
 
@@ -95,8 +95,8 @@ step-store m s (Pc a) = refl
 step-store m s (Latch v) = refl
 
 pub run-halves : (n : ℕ) (m : Media) (s : State) (xs : List Step)
-    → length (s .board .contents .halves) ≡ n → length ((run m s xs) .state .board .contents .halves) ≡ n
-run-halves n m = run-keeps (λ (s : State). length (s .board .contents .halves) ≡ n) m (λ s x k. step-halves m s x ∙ k)
+    → length (s .board .halves) ≡ n → length ((run m s xs) .state .board .halves) ≡ n
+run-halves n m = run-keeps (λ (s : State). length (s .board .halves) ≡ n) m (λ s x k. step-halves m s x ∙ k)
 
 pub run-store : (n : ℕ) (m : Media) (s : State) (xs : List Step)
     → length (s .store) ≡ n → length ((run m s xs) .state .store) ≡ n

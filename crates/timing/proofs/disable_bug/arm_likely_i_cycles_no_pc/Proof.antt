@@ -7,7 +7,7 @@ use Rattle.timing.proofs.disable_bug.arm_likely_i_cycles_no_pc.Tie as t
 
 returns : tie.Need-returns
 unfolding armInternal
-returns c = 
+returns c =
     let raw = c .args .raw in
     rw (
       mask-test (keep 4 4 9 (last 14 6 0)) raw tt,

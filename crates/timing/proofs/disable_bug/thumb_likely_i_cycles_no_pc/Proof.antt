@@ -7,7 +7,7 @@ use Rattle.timing.proofs.disable_bug.thumb_likely_i_cycles_no_pc.Tie as
 
 returns : tie.Need-returns
 unfolding thumbInternal
-returns c = 
+returns c =
     let raw = c .args .raw in
     rw (
       mask-fields 8 (last 3 5 13) raw tt,
