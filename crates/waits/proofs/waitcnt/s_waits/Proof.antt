@@ -1,0 +1,16 @@
+-- `waits::waitcnt::s_waits` meets its contract: each branch decides the definition's test. Assumes nothing.
+use borrow.Author.Tests.{eq-eqb, ne-eqb}
+use Rattle.model.specs.Waitcnt.{sWaits}
+use Rattle.waits.proofs.waitcnt.s_waits.Statement.{statement}
+use Rattle.waits.proofs.waitcnt.s_waits.Tie as tie
+
+returns : tie.Need-returns
+unfolding sWaits
+returns c = simp (eq-eqb _ _ (c .if1 .taken))
+
+returns-2 : tie.Need-returns-2
+unfolding sWaits
+returns-2 c = simp (ne-eqb _ _ (c .if1 .left))
+
+pub s-waits-spec : {M : Type 1} → statement M
+s-waits-spec = tie.close (tie.spec returns returns-2)
