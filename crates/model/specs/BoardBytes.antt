@@ -19,23 +19,26 @@ boardLength = 72
 
 -- ---- from bytes
 
+abbrev pub prefetchOf : List ℕ → Bool → PrefetchBuffer
+prefetchOf b on =
+    record {
+      head = byteAt b 3;
+      count = byteAt b 4;
+      «next_addr» = number 4 b 12;
+      «wait_left» = number 4 b 8;
+      «head_addr» = number 4 b 16;
+      enabled = on;
+      filling = eqb (byteAt b 5) 1;
+      «first_beat» = eqb (byteAt b 6) 1;
+    }
+
 -- the prefetch switch follows from WAITCNT
 unfoldable pub clockOf : List ℕ → Clock
 clockOf b =
     record {
       waitcnt = number 2 b 0;
       «force_next_fetch_n» = eqb (byteAt b 2) 1;
-      prefetch =
-          record {
-            head = byteAt b 3;
-            count = byteAt b 4;
-            «next_addr» = number 4 b 12;
-            «wait_left» = number 4 b 8;
-            «head_addr» = number 4 b 16;
-            enabled = prefetchEnable (number 2 b 0);
-            filling = eqb (byteAt b 5) 1;
-            «first_beat» = eqb (byteAt b 6) 1;
-          };
+      prefetch = prefetchOf b (prefetchEnable (number 2 b 0));
     }
 
 -- n halfwords from place i on
@@ -58,9 +61,9 @@ boardOf b = record { clock = clockOf b; halves = halvesFrom b 20 8; contents = c
 
 -- ---- to bytes
 
--- bytes 0 to 19
-abbrev pub clockFields : Clock → List Field
-clockFields c =
+-- bytes 0 to 7
+abbrev pub flagFields : Clock → List Field
+flagFields c =
     field 2 (c .waitcnt)
     ∷ field 1 (bit (c .«force_next_fetch_n»))
     ∷ field 1 (c .prefetch .head)
@@ -68,10 +71,14 @@ clockFields c =
     ∷ field 1 (bit (c .prefetch .filling))
     ∷ field 1 (bit (c .prefetch .«first_beat»))
     ∷ field 1 0
-    ∷ field 4 (c .prefetch .«wait_left»)
-    ∷ field 4 (c .prefetch .«next_addr»)
-    ∷ field 4 (c .prefetch .«head_addr»)
     ∷ []
+
+-- bytes 8 to 19
+abbrev pub wordFields : PrefetchBuffer → List Field
+wordFields p = field 4 (p .«wait_left») ∷ field 4 (p .«next_addr») ∷ field 4 (p .«head_addr») ∷ []
+
+abbrev pub clockFields : Clock → List Field
+clockFields c = flagFields c ++ wordFields (c .prefetch)
 
 -- bytes 36 to 71
 abbrev pub contentsFields : Contents → List Field
