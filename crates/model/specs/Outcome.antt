@@ -44,12 +44,14 @@ pub record Outcome : Type 0 where
 -- ---- the refusals
 
 -- no memory is longer than its physical size, and the seven add up to the store
-unfoldable pub lengthsFit : Lent → Bool
-lengthsFit i =
-    leb (length (i .bios)) biosSize && leb (length (i .rom)) romSize
-    && leb (i .lengths .ewram) ewramSize && leb (i .lengths .iwram) iwramSize && leb (i .lengths .io) ioSize
-    && leb (i .lengths .palette) paletteSize && leb (i .lengths .vram) vramSize && leb (i .lengths .oam) oamSize
-    && leb (i .lengths .sram) sramSize && eqb (lengthsSum (i .lengths)) (length (i .store))
+unfoldable pub sizesFit : Lengths → ℕ → ℕ → ℕ → Bool
+sizesFit l store bios rom =
+    leb bios biosSize && leb rom romSize && leb (l .ewram) ewramSize && leb (l .iwram) iwramSize && leb (l .io) ioSize
+    && leb (l .palette) paletteSize && leb (l .vram) vramSize && leb (l .oam) oamSize && leb (l .sram) sramSize
+    && eqb (lengthsSum l) store
+
+abbrev pub lengthsFit : Lent → Bool
+lengthsFit i = sizesFit (i .lengths) (length (i .store)) (length (i .bios)) (length (i .rom))
 
 abbrev pub faultIndex : Lent → ℕ
 faultIndex i = leastFaulty (recordsOf (i .sheet))
