@@ -9,6 +9,8 @@ pub mod Tick
 pub mod Switch
 pub mod Sound
 pub mod SoundTest
+pub mod Beats
+pub mod RomLoad
 pub mod Run
 pub mod Codec
 pub mod Timing

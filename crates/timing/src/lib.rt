@@ -1,2 +1,186 @@
-// The price of an instruction. Port of src/cpu/timing.rs; `disable_bug` is src/bus/disable_bug.rs.
+// The price of an instruction and of a data access. Port of src/cpu/timing.rs; `disable_bug` is src/bus/disable_bug.rs. The data
+// price is document 01's addition. The state goes in by value; nothing here reads a memory.
+use disable_bug::DisableBugInput;
+use model::AccessKind;
+use model::AccessSize;
+use model::InsnCycles;
+use model::IsaState;
+use model::PrefetchBuffer;
+use model::Region;
+use model::RomWindow;
+use model::TimingInput;
+use model::Windowed;
+ghost use mathlib.Core.Path.{_≡_};
+ghost use Rattle.model.specs.Base.{bit};
+ghost use Rattle.model.specs.Region.{decode};
+ghost use Rattle.model.specs.Wait.{nonseqIf, window as windowOf};
+ghost use Rattle.model.specs.Price as price;
+ghost use Rattle.model.specs.Timing as def;
+ghost use Rattle.model.specs.Laws.Bounds.{SmallWaits};
+
 pub mod disable_bug;
+
+// The Rust's `(u32, u32)`: the cycles of a fetch, and those of them in which the cartridge bus is free.
+pub struct FetchPrice {
+    pub cycles: u32,
+    pub cart_idle: u32,
+}
+
+// Whether an opcode is taken to have an internal cycle; of a Thumb opcode the low 16 bits count.
+fn had_internal(isa: IsaState, raw: u32) -> bool
+    ensures { λ r. ⌜ r ≡ def.internal isa raw ⌝ }
+{
+    match isa {
+        IsaState::Arm => disable_bug::arm_likely_i_cycles_no_pc(raw),
+        IsaState::Thumb => disable_bug::thumb_likely_i_cycles_no_pc((raw % 0x1_0000) as u16),
+    }
+}
+
+fn kind_by_flag(force: bool) -> AccessKind
+    ensures { λ r. ⌜ r ≡ nonseqIf force ⌝ }
+{
+    if force {
+        return AccessKind::Nonseq;
+    }
+    AccessKind::Seq
+}
+
+// One half from ROM: a hit on the buffer's head costs 1; else the address as given decides, with the window it is priced by.
+fn price_rom_half(
+    addr: u32,
+    window: RomWindow,
+    kind: AccessKind,
+    waits: [[u8; 2]; 3],
+    prefetch: PrefetchBuffer,
+) -> u32
+    ensures { λ r. ⌜ r ≡ def.romHalf waits prefetch addr window kind ⌝ }
+{
+    if prefetch::hits(prefetch, addr) {
+        return prefetch::hit_cycles();
+    }
+    waits::rom_half_cycles_at(waits, addr, window, kind)
+}
+
+// An opcode from ROM: one half, or two of which the second is sequential and priced by the first one's window.
+fn price_rom(
+    addr: u32,
+    window: RomWindow,
+    kind: AccessKind,
+    isa: IsaState,
+    waits: [[u8; 2]; 3],
+    prefetch: PrefetchBuffer,
+) -> u32
+    requires { ⌜ SmallWaits waits ⌝ }
+    ensures { λ r. ⌜ r ≡ def.romFetch waits prefetch addr window kind isa ⌝ }
+{
+    let first = price_rom_half(addr, window, kind, waits, prefetch);
+    match isa {
+        IsaState::Arm => {
+            let next = std::num::wrapping_add_u32(addr, 2);
+            first + price_rom_half(next, window, AccessKind::Seq, waits, prefetch)
+        }
+        IsaState::Thumb => first,
+    }
+}
+
+// An opcode from elsewhere.
+fn price_plain(addr: u32, isa: IsaState) -> u32
+    ensures { λ r. ⌜ r ≡ def.plainFetch addr isa ⌝ }
+{
+    if addr / 0x100_0000 != 0x02 {
+        return waits::fixed_fast_cycles();
+    }
+    match isa {
+        IsaState::Arm => waits::ewram_cycles(AccessSize::Word),
+        IsaState::Thumb => waits::ewram_cycles(AccessSize::Half),
+    }
+}
+
+fn price_fetch(
+    addr: u32,
+    kind: AccessKind,
+    isa: IsaState,
+    waits: [[u8; 2]; 3],
+    prefetch: PrefetchBuffer,
+) -> FetchPrice
+    requires { ⌜ SmallWaits waits ⌝ }
+    ensures { λ r. ⌜ r ≡ record { cycles = def.fetchIn waits prefetch addr kind isa (windowOf addr); «cart_idle» = def.idleIn addr isa (windowOf addr) } ⌝ }
+{
+    let Windowed::In(window) = waits::window_from_addr(addr) else {
+        let cycles = price_plain(addr, isa);
+        return FetchPrice {
+            cycles,
+            cart_idle: cycles,
+        };
+    };
+    let cycles = price_rom(addr, window, kind, isa, waits, prefetch);
+    FetchPrice {
+        cycles,
+        cart_idle: 0,
+    }
+}
+
+fn one_if(b: bool) -> u32
+    ensures { λ r. ⌜ r ≡ bit b ⌝ }
+{
+    if b { 1 } else { 0 }
+}
+
+// The five results of pricing an instruction.
+pub fn price_insn(input: TimingInput, waits: [[u8; 2]; 3], prefetch: PrefetchBuffer) -> InsnCycles
+    requires { ⌜ SmallWaits waits ⌝ }
+    ensures { λ r. ⌜ r ≡ def.priceInsn input waits prefetch ⌝ }
+{
+    let isa = input.isa;
+    let had_i = had_internal(isa, input.opcode_raw);
+    let fetch_kind = kind_by_flag(input.force_fetch_n);
+    let fetch = price_fetch(input.code_addr, fetch_kind, isa, waits, prefetch);
+    let code_in_rom = waits::in_window(input.code_addr);
+    let latch_disable_bug = disable_bug::force_next_fetch_nonseq(DisableBugInput {
+        prefetch_enabled: input.prefetch_enabled,
+        code_in_rom,
+        had_internal_cycles: had_i,
+        pc_changed: input.pc_changed,
+    });
+    let internal = one_if(had_i);
+    InsnCycles {
+        total: fetch.cycles + internal,
+        internal,
+        cart_idle: fetch.cart_idle + internal,
+        latch_disable_bug,
+        fetch_kind,
+    }
+}
+
+// ROM data: a byte or a half is one beat N, a word N + S.
+fn rom_data_cycles(waits: [[u8; 2]; 3], window: RomWindow, size: AccessSize) -> u32
+    ensures { λ r. ⌜ r ≡ price.romDataCycles waits window size ⌝ }
+{
+    match size {
+        AccessSize::Byte => waits::rom_half_cycles(waits, window, AccessKind::Nonseq),
+        AccessSize::Half => waits::rom_half_cycles(waits, window, AccessKind::Nonseq),
+        AccessSize::Word => waits::rom_word_cycles(waits, window, AccessKind::Nonseq),
+    }
+}
+
+// The price of a data access, by the region of its address; every access is taken as nonsequential.
+pub fn data_cycles(waits: [[u8; 2]; 3], sram_waits: u8, size: AccessSize, addr: u32) -> u32
+    ensures { λ r. ⌜ r ≡ price.priceIn waits «sram_waits» size (decode addr) ⌝ }
+{
+    let region = region::decode(addr);
+    match region {
+        Region::Bios => waits::fixed_fast_cycles(),
+        Region::UnusedLow => waits::fixed_fast_cycles(),
+        Region::Ewram => waits::ewram_cycles(size),
+        Region::Iwram => waits::fixed_fast_cycles(),
+        Region::Io => waits::fixed_fast_cycles(),
+        Region::Palette => waits::video_ram_cycles(size),
+        Region::Vram => waits::video_ram_cycles(size),
+        Region::Oam => waits::fixed_fast_cycles(),
+        Region::GamePakRomWs0 => rom_data_cycles(waits, RomWindow::Ws0, size),
+        Region::GamePakRomWs1 => rom_data_cycles(waits, RomWindow::Ws1, size),
+        Region::GamePakRomWs2 => rom_data_cycles(waits, RomWindow::Ws2, size),
+        Region::GamePakSram => waits::sram_byte_cycles(sram_waits),
+        Region::UnusedHigh => waits::fixed_fast_cycles(),
+    }
+}

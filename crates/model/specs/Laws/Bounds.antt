@@ -119,30 +119,30 @@ data-between w z a = priceIn-between w z (decode a)
 
 -- ---- an instruction costs 1 to 19, and leaves the cartridge bus idle for at most 7
 
-romHalf-between : (w : ℕ) (p : PrefetchBuffer) (a : ℕ) (win : RomWindow) (k : AccessKind) → Between 1 9 (romHalf (romWaits w) p a win k)
-unfolding romHalf
-romHalf-between w p a win k = either (λ (n : ℕ). Between 1 9 n) (hit p a) (omega arith) (half-between w win (kindAt a k))
+romHalf-between : (t : Waits) → SmallWaits t → (p : PrefetchBuffer) (a : ℕ) (win : RomWindow) (k : AccessKind) → Between 1 9 (romHalf t p a win k)
+unfolding romHalf romHalfCycles
+romHalf-between t small p a win k =
+    either (λ (n : ℕ). Between 1 9 n) (hit p a) (omega arith) (record { least = omega arith; most = small .small win (kindAt a k) })
 
-romFetch-between : (w : ℕ) (p : PrefetchBuffer) (a : ℕ) (win : RomWindow) (k : AccessKind) (isa : IsaState)
-    → Between 1 18 (romFetch (romWaits w) p a win k isa)
-romFetch-between w p a win k Thumb = omega (arith, romHalf-between w p a win k)
-romFetch-between w p a win k Arm = omega (arith, romHalf-between w p a win k, romHalf-between w p (further 2 a) win Seq)
+pub romFetch-between : (t : Waits) → SmallWaits t → (p : PrefetchBuffer) (a : ℕ) (win : RomWindow) (k : AccessKind) (isa : IsaState)
+    → Between 1 18 (romFetch t p a win k isa)
+romFetch-between t small p a win k Thumb = omega (arith, romHalf-between t small p a win k)
+romFetch-between t small p a win k Arm = omega (arith, romHalf-between t small p a win k, romHalf-between t small p (further 2 a) win Seq)
 
 plainFetch-between : (a : ℕ) (isa : IsaState) → Between 1 6 (plainFetch a isa)
 unfolding plainFetch
 plainFetch-between a isa = either (λ (n : ℕ). Between 1 6 n) (eqb (page a) 0x02) (ewram-between (codeSize isa)) (omega arith)
 
-fetchIn-between : (w : ℕ) (p : PrefetchBuffer) (a : ℕ) (k : AccessKind) (isa : IsaState) (v : Windowed)
-    → Between 1 18 (fetchIn (romWaits w) p a k isa v)
-fetchIn-between w p a k isa (In win) = romFetch-between w p a win k isa
-fetchIn-between w p a k isa Outside = omega (arith, plainFetch-between a isa)
+pub fetchIn-between : (t : Waits) → SmallWaits t → (p : PrefetchBuffer) (a : ℕ) (k : AccessKind) (isa : IsaState) (v : Windowed)
+    → Between 1 18 (fetchIn t p a k isa v)
+fetchIn-between t small p a k isa (In win) = romFetch-between t small p a win k isa
+fetchIn-between t small p a k isa Outside = omega (arith, plainFetch-between a isa)
 
-pub fetch-between : (w : ℕ) (p : PrefetchBuffer) (force : Bool) (isa : IsaState) (a : ℕ)
-    → Between 1 18 (fetchCycles (romWaits w) p force isa a)
+fetch-between : (t : Waits) → SmallWaits t → (p : PrefetchBuffer) (force : Bool) (isa : IsaState) (a : ℕ) → Between 1 18 (fetchCycles t p force isa a)
 unfolding fetchCycles
-fetch-between w p force isa a = fetchIn-between w p a (nonseqIf force) isa (window a)
+fetch-between t small p force isa a = fetchIn-between t small p a (nonseqIf force) isa (window a)
 
-idleIn≤6 : (a : ℕ) (isa : IsaState) (v : Windowed) → idleIn a isa v ≤ 6
+pub idleIn≤6 : (a : ℕ) (isa : IsaState) (v : Windowed) → idleIn a isa v ≤ 6
 idleIn≤6 a isa (In win) = omega arith
 idleIn≤6 a isa Outside = omega (arith, plainFetch-between a isa)
 
@@ -195,7 +195,7 @@ step-between c (Idle n) = omega arith
 step-between c (Fetch a) = omega arith
 step-between c (Restart a) = omega arith
 step-between c (Instruction isa a op changed) =
-    omega (arith, fetch-between (c .waitcnt) (c .prefetch) (c .«force_next_fetch_n») isa a, bit≤1 (internal isa op))
+    omega (arith, fetch-between (waitsOf c) (romWaits-small (c .waitcnt)) (c .prefetch) (c .«force_next_fetch_n») isa a, bit≤1 (internal isa op))
 step-between c (Pc a) = omega arith
 step-between c (Latch v) = omega arith
 

@@ -172,7 +172,7 @@ module _ (t : Waits) (small : SmallWaits t) where
         off = never on;
       })
 
-  ready-sound : (p : PrefetchBuffer) → Sound p → p .enabled ≡ true → Sound (ready t p)
+  pub ready-sound : (p : PrefetchBuffer) → Sound p → p .enabled ≡ true → Sound (ready t p)
   unfolding ready
   ready-sound p s on =
       choose Sound (not (p .filling) && ltb (p .count) capacity && inWindow (p .«next_addr»))
