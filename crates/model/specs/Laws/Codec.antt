@@ -6,7 +6,7 @@ use mathlib.Core.List.{List, [], _∷_, _++_, map}
 use Prim.Native.Nat.{ℕ, zero, suc, _+_, _*_, _/_, _%_, _^_, _≤_, _<_}
 use native.Mathlib.Omega.{arith}
 use native.Mathlib.Numerals.{add-one}
-use native.Mathlib.Nat.{pow-suc, one-le-pow, mod-eq-of-lt, add-assoc}
+use native.Mathlib.Nat.{zero-add, add-zero, suc-add, add-assoc, one-mul, mul-assoc, mul-comm, pow-suc, pow-succ', one-le-pow, div-one, div-div-eq-div-mul, mod-eq-of-lt}
 use lib.Arith.{mod-mul}
 use lib.ListN.{length, getD, take, drop, replicate, length-append}
 use lib.Seq.{getD-append-add, drop-cons, take-add, take-all, drop-drop}
@@ -52,6 +52,22 @@ bytes-number (suc n) i b h l =
     let high : (byteAt b i + 256 * number n b (i + 1)) / 256 ≡ number n b (i + 1) = omega (arith, h i) in
     rw (low, high, bytes-number n (i + 1) b h (omega arith), drop-cons b i 0 (omega arith), add-one)
 
+-- so many bytes, and the rest behind them
+pub number-add : (m n : ℕ) (b : List ℕ) (i : ℕ) → number (m + n) b i ≡ number m b i + 256 ^ m * number n b (i + m)
+number-add zero n b i = simp (zero-add, add-zero, one-mul)
+number-add (suc m) n b i =
+    let e : i + suc m ≡ i + 1 + m = omega arith in
+    rw (suc-add, number-add m n b (i + 1), pow-suc, e) (omega (arith, mul-assoc (256 ^ m) 256 (number n b (i + 1 + m)), mul-comm (256 ^ m) 256))
+
+pub bytes-add : (m n v : ℕ) → bytes (m + n) v ≡ bytes m (v % 256 ^ m) ++ bytes n (v / 256 ^ m)
+bytes-add zero n v = simp (zero-add, div-one)
+bytes-add (suc m) n v =
+    let one = one-le-pow m 256 (omega arith) in
+    let cut = rw (← pow-suc) at (mod-mul v {m = 256 ^ m} {c = 256} one (omega arith)) in
+    let low : v % 256 ^ suc m % 256 ≡ v % 256 = omega (arith, cut) in
+    let high : v % 256 ^ suc m / 256 ≡ v / 256 % 256 ^ m = omega (arith, cut) in
+    rw (suc-add, bytes-add m n (v / 256), low, high, pow-succ', ← div-div-eq-div-mul)
+
 -- ---- fields
 
 -- fields of these widths, read one after the other from place i on
@@ -67,10 +83,10 @@ fields-back (w ∷ ws) b i h l =
 
 -- ---- halfwords
 
-abbrev halfBytes : List ℕ → List ℕ
+abbrev pub halfBytes : List ℕ → List ℕ
 halfBytes hs = encoded (map (field 2) hs)
 
-halfBytes-length : (hs : List ℕ) → length (halfBytes hs) ≡ 2 * length hs
+pub halfBytes-length : (hs : List ℕ) → length (halfBytes hs) ≡ 2 * length hs
 halfBytes-length [] = refl
 halfBytes-length (h ∷ hs) = omega (arith, halfBytes-length hs)
 
@@ -149,7 +165,7 @@ pub zero-byte : (b : Board) → byteAt (boardBytes b) 7 ≡ 0
 unfolding boardBytes
 zero-byte b = refl
 
-flag-byte : (t : Bool) → bit t % 256 ≡ bit t
+pub flag-byte : (t : Bool) → bit t % 256 ≡ bit t
 flag-byte true = refl
 flag-byte false = refl
 

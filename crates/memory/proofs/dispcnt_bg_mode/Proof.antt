@@ -1,0 +1,18 @@
+-- `dispcnt_bg_mode` meets its contract: byte 0 of the I/O part. Assumes nothing.
+use Rattle.model.specs.Store.{modeOf}
+use borrow.Author.Needs.{needs}
+use Rattle.memory.proofs.dispcnt_bg_mode.Statement.{statement}
+use Rattle.memory.proofs.dispcnt_bg_mode.Tie as tie
+
+io-requires : tie.Need-io-requires
+io-requires c κs = search needs
+
+byte-in-requires : tie.Need-byte-in-requires
+byte-in-requires c κs = search needs
+
+returns : tie.Need-returns
+unfolding modeOf
+returns c = simp (c .byte-in .ensures, c .before .io .ensures .base, c .before .io .ensures .size)
+
+pub dispcnt-bg-mode-spec : {M : Type 1} → statement M
+dispcnt-bg-mode-spec = tie.close (tie.spec io-requires byte-in-requires returns)

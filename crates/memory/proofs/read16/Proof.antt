@@ -1,0 +1,62 @@
+-- `read16` meets its contract: the branch decides the definition's test. Assumes nothing.
+use mathlib.Core.Path.{_∙_, sym}
+use Rattle.model.specs.Load.{load16}
+use Rattle.memory.proofs.Arms.{sram-test}
+use borrow.Author.Needs.{needs}
+use Rattle.memory.proofs.read16.Statement.{statement}
+use Rattle.memory.proofs.read16.Tie as tie
+
+read8-requires : tie.Need-read8-requires
+read8-requires c κs = search needs
+
+cast-lo : tie.Need-cast-lo
+cast-lo c = search needs
+
+decode-requires : tie.Need-decode-requires
+decode-requires c κs = search needs
+
+is-sram-requires : tie.Need-is-sram-requires
+is-sram-requires c κs = search needs
+
+mul-result : tie.Need-mul-result
+mul-result c = search needs
+
+returns : tie.Need-returns
+unfolding load16
+returns c = simp (sram-test (c .before .before .before .before .before .before .before .args .addr) (c .before .before .decode .ensures) (c .before .is-sram .ensures) (c .if1 .taken), c .before .before .before .read8 .ensures)
+
+wrapping-add-u32-requires : tie.Need-wrapping-add-u32-requires
+wrapping-add-u32-requires c κs = search needs
+
+read8-requires-2 : tie.Need-read8-requires-2
+read8-requires-2 c κs = search needs
+
+cast-hi : tie.Need-cast-hi
+cast-hi c = search needs
+
+mul-result-2 : tie.Need-mul-result-2
+mul-result-2 c = search needs
+
+add-result : tie.Need-add-result
+add-result c = search needs
+
+returns-2 : tie.Need-returns-2
+unfolding load16
+returns-2 c = simp (sram-test (c .before .before .before .before .before .before .before .before .before .args .addr) (c .before .before .before .before .decode .ensures) (c .before .before .before .is-sram .ensures) (c .before .before .if1 .left), c .before .before .before .before .before .read8 .ensures, c .read82 .ensures, c .before .wrapping-add-u32 .ensures)
+
+pub read16-spec : {M : Type 1} → statement M
+read16-spec =
+    tie.close
+    (tie.spec
+    read8-requires
+    cast-lo
+    decode-requires
+    is-sram-requires
+    mul-result
+    returns
+    wrapping-add-u32-requires
+    read8-requires-2
+    cast-hi
+    mul-result-2
+    add-result
+    returns-2)

@@ -1,0 +1,70 @@
+-- `read32` meets its contract: the branch decides the definition's test. Assumes nothing.
+use mathlib.Core.Path.{_∙_, sym}
+use Rattle.model.specs.Load.{load32}
+use Rattle.memory.proofs.Arms.{sram-test}
+use borrow.Author.Needs.{needs}
+use Rattle.memory.proofs.read32.Statement.{statement}
+use Rattle.memory.proofs.read32.Tie as tie
+
+decode-requires : tie.Need-decode-requires
+decode-requires c κs = search needs
+
+is-sram-requires : tie.Need-is-sram-requires
+is-sram-requires c κs = search needs
+
+read8-requires : tie.Need-read8-requires
+read8-requires c κs = search needs
+
+cast-b : tie.Need-cast-b
+cast-b c = search needs
+
+mul-result : tie.Need-mul-result
+mul-result c = search needs
+
+returns : tie.Need-returns
+unfolding load32
+returns c = simp (sram-test (c .before .before .before .before .before .before .before .args .addr) (c .before .before .before .decode .ensures) (c .before .before .is-sram .ensures) (c .before .if1 .taken), c .read8 .ensures)
+
+read16-requires : tie.Need-read16-requires
+read16-requires c κs = search needs
+
+cast-lo : tie.Need-cast-lo
+cast-lo c = search needs
+
+wrapping-add-u32-requires : tie.Need-wrapping-add-u32-requires
+wrapping-add-u32-requires c κs = search needs
+
+read16-requires-2 : tie.Need-read16-requires-2
+read16-requires-2 c κs = search needs
+
+cast-hi : tie.Need-cast-hi
+cast-hi c = search needs
+
+mul-result-2 : tie.Need-mul-result-2
+mul-result-2 c = search needs
+
+add-result : tie.Need-add-result
+add-result c = search needs
+
+returns-2 : tie.Need-returns-2
+unfolding load32
+returns-2 c = simp (sram-test (c .before .before .before .before .before .before .before .before .before .args .addr) (c .before .before .before .before .before .decode .ensures) (c .before .before .before .before .is-sram .ensures) (c .before .before .before .if1 .left), c .before .before .read16 .ensures, c .read162 .ensures, c .before .wrapping-add-u32 .ensures)
+
+pub read32-spec : {M : Type 1} → statement M
+read32-spec =
+    tie.close
+    (tie.spec
+    decode-requires
+    is-sram-requires
+    read8-requires
+    cast-b
+    mul-result
+    returns
+    read16-requires
+    cast-lo
+    wrapping-add-u32-requires
+    read16-requires-2
+    cast-hi
+    mul-result-2
+    add-result
+    returns-2)

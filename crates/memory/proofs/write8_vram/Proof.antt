@@ -1,0 +1,69 @@
+-- `write8_vram` meets its contract: the place is classified as the definition tests it. Assumes nothing.
+use mathlib.Core.Path.{_≡_, _∙_}
+use mathlib.Core.Bool.{Bool, true, false}
+use native.Mathlib.Omega.{arith}
+use Rattle.model.specs.Store.{modeOf}
+use Rattle.memory.proofs.Arms.{vram-within, vram-class, vram-fills}
+use borrow.Author.Needs.{needs}
+use Rattle.memory.proofs.write8_vram.Statement.{statement}
+use Rattle.memory.proofs.write8_vram.Tie as tie
+
+vram-offset-requires : tie.Need-vram-offset-requires
+vram-offset-requires c κs = search needs
+
+dispcnt-bg-mode-requires : tie.Need-dispcnt-bg-mode-requires
+dispcnt-bg-mode-requires c κs = search needs
+
+cast-classify-vram-offset : tie.Need-cast-classify-vram-offset
+cast-classify-vram-offset c = omega (arith, c .before .before .vram-offset .ensures, vram-within (c .before .before .before .before .args .addr))
+
+classify-vram-offset-requires : tie.Need-classify-vram-offset-requires
+classify-vram-offset-requires c κs = search needs
+
+enum-known-class : tie.Need-enum-known-class
+enum-known-class c = search needs
+
+enum-told : tie.Need-enum-told
+enum-told c = search needs
+
+same-length : tie.Need-same-length
+same-length c = search needs
+
+returns : tie.Need-returns
+returns c =
+    let m = modeOf (c .before .before .before .before .before .before .before .args .lengths) (c .before .before .before .before .before .before .before .args .store .now) in
+    let k = vram-class m (c .before .before .before .before .before .before .before .args .addr) (c .before .before .before .before .before .vram-offset .ensures) (c .before .before .before .dispcnt-bg-mode .ensures) (c .before .before .classify-vram-offset .ensures) (c .enum-told .given .1) in
+    let z : _≡_ {A = Bool} true false = cc k in
+    (cc, cc)
+
+vram-requires : tie.Need-vram-requires
+vram-requires c κs = search needs
+
+write8-video-requires : tie.Need-write8-video-requires
+write8-video-requires c κs = search needs
+
+same-length-2 : tie.Need-same-length-2
+same-length-2 c = search needs
+
+returns-2 : tie.Need-returns-2
+returns-2 c =
+    let m = modeOf (c .before .before .before .before .before .before .before .before .before .before .before .before .before .args .lengths) (c .before .before .before .before .before .before .before .before .before .before .before .before .before .args .store .now) in
+    let f = vram-fills m (c .before .before .before .before .before .before .before .before .before .before .before .before .before .args .addr) (c .before .before .before .before .before .before .before .before .before .before .before .vram-offset .ensures) (c .before .before .before .before .before .before .before .before .before .dispcnt-bg-mode .ensures) (c .before .before .before .before .before .before .before .before .classify-vram-offset .ensures) (c .before .before .before .before .before .before .class .given .1) in
+    (c .before .before .write8-video .ensures .0 ∙ simp (f, c .before .before .before .before .vram .ensures .base, c .before .before .before .before .vram .ensures .size, c .before .before .before .before .before .before .before .before .before .before .before .vram-offset .ensures), c .before .before .write8-video .ensures .1 ∙ simp f)
+
+pub write8-vram-spec : {M : Type 1} → statement M
+write8-vram-spec =
+    tie.close
+    (tie.spec
+    vram-offset-requires
+    dispcnt-bg-mode-requires
+    cast-classify-vram-offset
+    classify-vram-offset-requires
+    enum-known-class
+    enum-told
+    same-length
+    returns
+    vram-requires
+    write8-video-requires
+    same-length-2
+    returns-2)

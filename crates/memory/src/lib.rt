@@ -1,0 +1,394 @@
+// The bus: loads and stores of 1, 2 and 4 bytes over the lent memories. Port of src/bus/mod.rs (`Bus as CpuMem`); `openbus` and
+// `video` are the files of those names. BIOS and ROM are slices of their own; the other memories are parts of one store, with
+// their lengths beside it. The pc and the BIOS latch are handed in by value.
+use model::AccessSize;
+use model::Lengths;
+use model::Offset;
+use model::Region;
+use openbus::OpenBusState;
+use openbus::ProtectedRead;
+use parts::Part;
+use parts::byte_in;
+use parts::put;
+use parts::put_half;
+use parts::read_slice;
+use region::decode;
+use region::mirror::ewram_offset;
+use region::mirror::io_offset;
+use region::mirror::iwram_offset;
+use region::mirror::oam_offset;
+use region::mirror::palette_offset;
+use region::mirror::rom_offset;
+use region::mirror::sram_window_offset;
+use region::mirror::vram_offset;
+use video::VideoTarget;
+use video::VideoWriteAction;
+use video::VramTarget;
+ghost use mathlib.Core.Path.{_≡_};
+ghost use mathlib.Core.List.{[]};
+ghost use Prim.Native.Nat.{_+_, _≤_, _<_};
+ghost use lib.ListN.{length};
+ghost use Rattle.model.specs.Base.{if_then_else_, bit, byteOf};
+ghost use Rattle.model.specs.Mirror.{vramOffset, sramOffset};
+ghost use Rattle.model.specs.Load as loads;
+ghost use Rattle.model.specs.Store as stores;
+ghost use Rattle.model.specs.Video.{VideoRam};
+ghost use Rattle.model.specs.declared.AccessSize.the-variants.{Byte, Half, Word};
+ghost use Rattle.memory.specs.Bus.{busFrom, partOf};
+ghost use Rattle.memory.specs.Video.{fillsHalfword};
+
+pub mod openbus;
+mod parts;
+pub mod video;
+
+// A counter stops at its greatest number.
+pub fn saturating_add(a: u64, b: u64) -> u64
+    ensures { λ r. ⌜ r ≡ stores.counted a b ⌝ }
+{
+    if b <= 0xFFFF_FFFF_FFFF_FFFF - a {
+        a + b
+    } else {
+        0xFFFF_FFFF_FFFF_FFFF
+    }
+}
+
+// Byte `k` of a number: what rotating it right by 8 * k brings lowest.
+fn lane(value: u32, k: u32) -> u8
+    requires { ⌜ k < 4 ⌝ }
+    ensures { λ r. ⌜ r ≡ byteOf k value ⌝ }
+{
+    match k {
+        0 => (value % 256) as u8,
+        1 => (value / 0x100 % 256) as u8,
+        2 => (value / 0x1_0000 % 256) as u8,
+        _ => (value / 0x100_0000 % 256) as u8,
+    }
+}
+
+// The bus of 8 bits.
+fn is_sram(region: Region) -> bool
+    ensures { λ r. ⌜ r ≡ loads.isSram region ⌝ }
+{
+    match region {
+        Region::Bios => false,
+        Region::UnusedLow => false,
+        Region::Ewram => false,
+        Region::Iwram => false,
+        Region::Io => false,
+        Region::Palette => false,
+        Region::Vram => false,
+        Region::Oam => false,
+        Region::GamePakRomWs0 => false,
+        Region::GamePakRomWs1 => false,
+        Region::GamePakRomWs2 => false,
+        Region::GamePakSram => true,
+        Region::UnusedHigh => false,
+    }
+}
+
+// ---- loads
+
+// The region has shown that the address is below the BIOS's end.
+fn read_bios8(addr: u32, pc: u32, latch: u32, bios: &[u8]) -> u8
+    ensures { λ r. ⌜ r ≡ loads.biosByte (now (bios .entry)) pc latch addr ⌝ }
+{
+    let state = OpenBusState {
+        last_bios_opcode: latch,
+    };
+    let protect = openbus::bios_protect_read(pc, state);
+    match protect {
+        ProtectedRead::Latched(opcode) => openbus::bios_protect_byte(opcode, addr),
+        ProtectedRead::Unprotected => read_slice(bios, addr as usize),
+    }
+}
+
+// A load repeats at the chip's length; without a chip the lines stay high.
+fn read_sram8(addr: u32, store: &[u8], lengths: Lengths) -> u8
+    requires { ⌜ loads.lengthsSum lengths ≡ length (now store) ⌝ }
+    ensures { λ r. ⌜ r ≡ loads.sramByte (now (store .entry)) (loads.sramPart lengths) (sramOffset addr) ⌝ }
+{
+    let size = lengths.sram;
+    if size == 0 {
+        return 0xFF;
+    }
+    byte_in(store, parts::sram(lengths), sram_window_offset(addr) % size)
+}
+
+pub fn read8(
+    addr: u32,
+    pc: u32,
+    latch: u32,
+    bios: &[u8],
+    rom: &[u8],
+    store: &[u8],
+    lengths: Lengths,
+) -> u8
+    requires { ⌜ loads.lengthsSum lengths ≡ length (now store) ⌝ }
+    ensures { λ r. ⌜ r ≡ loads.load8 (busFrom pc latch (now (bios .entry)) (now (rom .entry)) (now (store .entry)) lengths) addr ⌝ }
+{
+    let region = decode(addr);
+    match region {
+        Region::Bios => read_bios8(addr, pc, latch, bios),
+        Region::UnusedLow => 0,
+        Region::Ewram => byte_in(store, parts::ewram(lengths), ewram_offset(addr)),
+        Region::Iwram => byte_in(store, parts::iwram(lengths), iwram_offset(addr)),
+        Region::Io => {
+            let offset = io_offset(addr);
+            match offset {
+                Offset::At(index) => byte_in(store, parts::io(lengths), index),
+                Offset::Unbacked => 0,
+            }
+        }
+        Region::Palette => byte_in(store, parts::palette(lengths), palette_offset(addr)),
+        Region::Vram => byte_in(store, parts::vram(lengths), vram_offset(addr)),
+        Region::Oam => byte_in(store, parts::oam(lengths), oam_offset(addr)),
+        Region::GamePakRomWs0 => read_slice(rom, rom_offset(addr)),
+        Region::GamePakRomWs1 => read_slice(rom, rom_offset(addr)),
+        Region::GamePakRomWs2 => read_slice(rom, rom_offset(addr)),
+        Region::GamePakSram => read_sram8(addr, store, lengths),
+        Region::UnusedHigh => 0,
+    }
+}
+
+// SRAM's one byte stands in both halves.
+pub fn read16(
+    addr: u32,
+    pc: u32,
+    latch: u32,
+    bios: &[u8],
+    rom: &[u8],
+    store: &[u8],
+    lengths: Lengths,
+) -> u16
+    requires { ⌜ loads.lengthsSum lengths ≡ length (now store) ⌝ }
+    ensures { λ r. ⌜ r ≡ loads.load16 (busFrom pc latch (now (bios .entry)) (now (rom .entry)) (now (store .entry)) lengths) addr ⌝ }
+{
+    let lo = read8(addr, pc, latch, bios, rom, store, lengths) as u16;
+    let region = decode(addr);
+    if is_sram(region) {
+        return 0x0101 * lo;
+    }
+    let next = std::num::wrapping_add_u32(addr, 1);
+    let hi = read8(next, pc, latch, bios, rom, store, lengths) as u16;
+    lo + 0x100 * hi
+}
+
+pub fn read32(
+    addr: u32,
+    pc: u32,
+    latch: u32,
+    bios: &[u8],
+    rom: &[u8],
+    store: &[u8],
+    lengths: Lengths,
+) -> u32
+    requires { ⌜ loads.lengthsSum lengths ≡ length (now store) ⌝ }
+    ensures { λ r. ⌜ r ≡ loads.load32 (busFrom pc latch (now (bios .entry)) (now (rom .entry)) (now (store .entry)) lengths) addr ⌝ }
+{
+    let region = decode(addr);
+    if is_sram(region) {
+        let b = read8(addr, pc, latch, bios, rom, store, lengths) as u32;
+        return 0x0101_0101 * b;
+    }
+    let lo = read16(addr, pc, latch, bios, rom, store, lengths) as u32;
+    let next = std::num::wrapping_add_u32(addr, 2);
+    let hi = read16(next, pc, latch, bios, rom, store, lengths) as u32;
+    lo + 0x1_0000 * hi
+}
+
+pub fn read(
+    size: AccessSize,
+    addr: u32,
+    pc: u32,
+    latch: u32,
+    bios: &[u8],
+    rom: &[u8],
+    store: &[u8],
+    lengths: Lengths,
+) -> u32
+    requires { ⌜ loads.lengthsSum lengths ≡ length (now store) ⌝ }
+    ensures { λ r. ⌜ r ≡ loads.load (busFrom pc latch (now (bios .entry)) (now (rom .entry)) (now (store .entry)) lengths) size addr ⌝ }
+{
+    match size {
+        AccessSize::Byte => read8(addr, pc, latch, bios, rom, store, lengths) as u32,
+        AccessSize::Half => read16(addr, pc, latch, bios, rom, store, lengths) as u32,
+        AccessSize::Word => read32(addr, pc, latch, bios, rom, store, lengths),
+    }
+}
+
+// ---- stores; each gives the video halfwords that its caller adds to the region's counter
+
+// The display mode, by which VRAM is split.
+fn dispcnt_bg_mode(store: &[u8], lengths: Lengths) -> u8
+    requires { ⌜ loads.lengthsSum lengths ≡ length (now store) ⌝ }
+    ensures { λ r. ⌜ r ≡ stores.modeOf lengths (now (store .entry)) ⌝ }
+{
+    byte_in(store, parts::io(lengths), 0) % 8
+}
+
+// A store does not repeat at the chip's length.
+fn write_sram8(addr: u32, value: u8, store: &mut [u8], lengths: Lengths)
+    requires { ⌜ loads.lengthsSum lengths ≡ length (now store) ⌝ }
+    ensures { λ r. ⌜ now (store .exit) ≡ stores.landed (now (store .entry)) (stores.put (loads.sramPart lengths) (sramOffset addr) value) ⌝ }
+{
+    put(store, parts::sram(lengths), sram_window_offset(addr), value)
+}
+
+// A byte store fills its halfword, or is dropped.
+fn write8_video(target: VideoTarget, part: Part, offset: usize, value: u8, store: &mut [u8]) -> u32
+    requires { ⌜ part .base + part .size ≤ length (now store) ⌝ }
+    ensures { λ r. ⌜ now (store .exit) ≡ stores.landed (now (store .entry)) (if fillsHalfword target then stores.putHalf (partOf part) offset value value else []) ⌝ }
+    ensures { λ r. ⌜ r ≡ bit (fillsHalfword target) ⌝ }
+{
+    let action = video::resolve_strb(target, value);
+    match action {
+        VideoWriteAction::Store => 0,
+        VideoWriteAction::ExpandByteToHalfword { halfword } => {
+            put_half(store, part, offset, halfword);
+            1
+        }
+        VideoWriteAction::Ignore => 0,
+        VideoWriteAction::Reject => 0,
+    }
+}
+
+fn write8_vram(addr: u32, value: u8, store: &mut [u8], lengths: Lengths) -> u32
+    requires { ⌜ loads.lengthsSum lengths ≡ length (now store) ⌝ }
+    ensures { λ r. ⌜ now (store .exit) ≡ stores.landed (now (store .entry)) (stores.puts8At (stores.modeOf lengths (now (store .entry))) value (stores.Video VideoRam (loads.vramPart lengths) (vramOffset addr))) ⌝ }
+    ensures { λ r. ⌜ r ≡ stores.videoCount (stores.modeOf lengths (now (store .entry))) Byte (stores.Video VideoRam (loads.vramPart lengths) (vramOffset addr)) ⌝ }
+{
+    let offset = vram_offset(addr);
+    let mode = dispcnt_bg_mode(store, lengths);
+    let class = video::classify_vram_offset(offset as u32, mode);
+    let VramTarget::Within(target) = class else {
+        return 0;
+    };
+    write8_video(target, parts::vram(lengths), offset, value, store)
+}
+
+pub fn write8(addr: u32, value: u8, store: &mut [u8], lengths: Lengths) -> u32
+    requires { ⌜ loads.lengthsSum lengths ≡ length (now store) ⌝ }
+    ensures { λ r. ⌜ now (store .exit) ≡ stores.landed (now (store .entry)) (stores.puts8 lengths (stores.modeOf lengths (now (store .entry))) addr value) ⌝ }
+    ensures { λ r. ⌜ r ≡ stores.videoCount (stores.modeOf lengths (now (store .entry))) Byte (stores.target lengths addr) ⌝ }
+{
+    let region = decode(addr);
+    match region {
+        Region::Bios => 0,
+        Region::UnusedLow => 0,
+        Region::Ewram => {
+            put(store, parts::ewram(lengths), ewram_offset(addr), value);
+            0
+        }
+        Region::Iwram => {
+            put(store, parts::iwram(lengths), iwram_offset(addr), value);
+            0
+        }
+        Region::Io => {
+            let offset = io_offset(addr);
+            match offset {
+                Offset::At(index) => {
+                    put(store, parts::io(lengths), index, value);
+                    0
+                }
+                Offset::Unbacked => 0,
+            }
+        }
+        Region::Palette => write8_video(
+            VideoTarget::Palette,
+            parts::palette(lengths),
+            palette_offset(addr),
+            value,
+            store,
+        ),
+        Region::Vram => write8_vram(addr, value, store, lengths),
+        Region::Oam => 0,
+        Region::GamePakRomWs0 => 0,
+        Region::GamePakRomWs1 => 0,
+        Region::GamePakRomWs2 => 0,
+        Region::GamePakSram => {
+            write_sram8(addr, value, store, lengths);
+            0
+        }
+        Region::UnusedHigh => 0,
+    }
+}
+
+// Each halfword is stored whole, aligned: in video memory, where a byte is not stored as such, and alike elsewhere.
+pub fn write16(addr: u32, value: u16, store: &mut [u8], lengths: Lengths) -> u32
+    requires { ⌜ loads.lengthsSum lengths ≡ length (now store) ⌝ }
+    ensures { λ r. ⌜ now (store .exit) ≡ stores.landed (now (store .entry)) (stores.puts16 lengths addr value) ⌝ }
+    ensures { λ r. ⌜ r ≡ stores.videoCount 0 Half (stores.target lengths addr) ⌝ }
+{
+    let region = decode(addr);
+    match region {
+        Region::Bios => 0,
+        Region::UnusedLow => 0,
+        Region::Ewram => {
+            put_half(store, parts::ewram(lengths), ewram_offset(addr), value);
+            0
+        }
+        Region::Iwram => {
+            put_half(store, parts::iwram(lengths), iwram_offset(addr), value);
+            0
+        }
+        Region::Io => {
+            let offset = io_offset(addr);
+            match offset {
+                Offset::At(index) => {
+                    put_half(store, parts::io(lengths), index, value);
+                    0
+                }
+                Offset::Unbacked => 0,
+            }
+        }
+        Region::Palette => {
+            put_half(store, parts::palette(lengths), palette_offset(addr), value);
+            1
+        }
+        Region::Vram => {
+            put_half(store, parts::vram(lengths), vram_offset(addr), value);
+            1
+        }
+        Region::Oam => {
+            put_half(store, parts::oam(lengths), oam_offset(addr), value);
+            1
+        }
+        Region::GamePakRomWs0 => 0,
+        Region::GamePakRomWs1 => 0,
+        Region::GamePakRomWs2 => 0,
+        Region::GamePakSram => {
+            write_sram8(addr, lane(value as u32, addr % 2), store, lengths);
+            0
+        }
+        Region::UnusedHigh => 0,
+    }
+}
+
+pub fn write32(addr: u32, value: u32, store: &mut [u8], lengths: Lengths) -> u32
+    requires { ⌜ loads.lengthsSum lengths ≡ length (now store) ⌝ }
+    ensures { λ r. ⌜ now (store .exit) ≡ stores.landed (now (store .entry)) (stores.puts32 lengths addr value) ⌝ }
+    ensures { λ r. ⌜ r ≡ stores.videoCount 0 Word (stores.target lengths addr) ⌝ }
+{
+    let region = decode(addr);
+    if is_sram(region) {
+        write_sram8(addr, lane(value, addr % 4), store, lengths);
+        return 0;
+    }
+    let aligned = addr / 4 * 4;
+    let next = std::num::wrapping_add_u32(aligned, 2);
+    let low = write16(aligned, (value % 0x1_0000) as u16, store, lengths);
+    let high = write16(next, (value / 0x1_0000 % 0x1_0000) as u16, store, lengths);
+    low + high
+}
+
+pub fn write(size: AccessSize, addr: u32, value: u32, store: &mut [u8], lengths: Lengths) -> u32
+    requires { ⌜ loads.lengthsSum lengths ≡ length (now store) ⌝ }
+    ensures { λ r. ⌜ now (store .exit) ≡ stores.landed (now (store .entry)) (stores.puts lengths (stores.modeOf lengths (now (store .entry))) size addr value) ⌝ }
+    ensures { λ r. ⌜ r ≡ stores.videoCount (stores.modeOf lengths (now (store .entry))) size (stores.target lengths addr) ⌝ }
+{
+    match size {
+        AccessSize::Byte => write8(addr, (value % 256) as u8, store, lengths),
+        AccessSize::Half => write16(addr, (value % 0x1_0000) as u16, store, lengths),
+        AccessSize::Word => write32(addr, value, store, lengths),
+    }
+}

@@ -1,0 +1,87 @@
+-- Laws that several proofs share: a list written part by part, numbers joined from halves, and the search for the first record with a fault.
+-- Assumes nothing.
+use mathlib.Core.Path.{_≡_, refl, sym, ap, ap₂, _∙_}
+use mathlib.Core.Bool.{Bool, true, false}
+use mathlib.Core.List.{List, [], _∷_, _++_, map, append-assoc, append-nil}
+use Prim.Native.Nat.{ℕ, zero, suc, _+_, _-_, _*_, _^_, _≤_, _<_}
+use native.Mathlib.Nat.{zero-add, add-zero, sub-zero}
+use native.Mathlib.Omega.{arith}
+use lib.ListN.{length, getD, take, drop, length-append, length-take, length-drop, drop-of-length-le}
+use lib.Seq.{sets, sets-eq, take-all, take-append-add, take-at, take-suc, length-take-le, drop-length}
+use borrow.Rule.Slice.PartMut.{putMid}
+use Rattle.model.specs.Base.{if_then_else_, number}
+use Rattle.model.specs.Sheet.{recordAt, recordsFrom, firstOf}
+use Rattle.model.specs.Laws.Codec.{number-add}
+use Rattle.model.specs.declared.SheetRecord.{SheetRecord}
+
+-- ---- a list written part by part
+
+-- a list of n bytes whose first a are p
+pub record Begun (n : ℕ) (l : List ℕ) (a : ℕ) (p : List ℕ) : Type 0 where
+  pub whole : length l ≡ n
+  pub front : take a l ≡ p
+
+pub begin : {n : ℕ} (l : List ℕ) → length l ≡ n → Begun n l 0 []
+begin l e = record { whole = e; front = refl }
+
+-- the next part, where x was put and is q
+pub next : {n a : ℕ} {l p x q : List ℕ} → Begun n l a p → (k : ℕ) → x ≡ q → length q ≡ k → a + k ≤ n → Begun n (putMid a k l x) (a + k) (p ++ q)
+next {n} {a} {l} {p} {x} {q} b k e d h =
+    let t : length (take a l) ≡ a = length-take-le a l (omega (arith, b .whole)) in
+    record {
+      whole = simp (length-append, t, length-drop, e, d) (omega (arith, b .whole));
+      front =
+          ap (take (a + k)) (sym (append-assoc (take a l) x (drop k (drop a l))))
+          ∙ take-at (take a l ++ x) (drop k (drop a l)) (a + k) (simp (length-append, t, e, d))
+          ∙ ap₂ _++_ (b .front) e;
+    }
+
+-- the last part, stored byte by byte
+pub stored : {n a : ℕ} {l p : List ℕ} (vs : List ℕ) → Begun n l a p → a + length vs ≡ n → sets l a vs ≡ p ++ vs
+stored {n} {a} {l} vs b e =
+    sets-eq vs l a (omega (arith, b .whole))
+    ∙ ap₂ (λ (x y : List ℕ). x ++ vs ++ y) (b .front) (drop-of-length-le l {i = a + length vs} (omega (arith, b .whole)))
+    ∙ append-nil _
+
+-- all parts
+pub written : {n : ℕ} {l p : List ℕ} → Begun n l n p → l ≡ p
+written {n} {l} b = sym (take-all n l (omega (arith, b .whole))) ∙ b .front
+
+-- ---- a number of two halves
+
+pub joined : (n : ℕ) (s : List ℕ) (i : ℕ) {r low high : ℕ} → r ≡ low + 256 ^ n * high → low ≡ number n s i → high ≡ number n s (i + n) → r ≡ number (n + n) s i
+joined n s i e d h = e ∙ ap₂ (λ (a b : ℕ). a + 256 ^ n * b) d h ∙ sym (number-add n n s i)
+
+-- ---- the first record that a test finds
+
+-- what stands after k records that it doesn't find
+pub record Sought (f : SheetRecord → Bool) (s : List ℕ) (n k : ℕ) : Type 0 where
+  pub within : k ≤ n
+  pub same : firstOf f (recordsFrom s 0 n) ≡ k + firstOf f (recordsFrom s k (n - k))
+
+module _ {f : SheetRecord → Bool} {s : List ℕ} {n : ℕ} where
+  pub none-sought : Sought f s n 0
+  none-sought = record { within = omega arith; same = simp (sub-zero, zero-add) }
+
+  module _ {k : ℕ} (g : Sought f s n k) where
+    module _ (h : k < n) {t : Bool} {r : SheetRecord} (e : t ≡ f r) (d : r ≡ recordAt s k) where
+      more : n - k ≡ suc (n - (k + 1))
+      more = omega arith
+
+      pub found : t ≡ true → k ≡ firstOf f (recordsFrom s 0 n)
+      unfolding firstOf recordsFrom
+      found u =
+          let z : f (recordAt s k) ≡ true = sym (e ∙ ap f d) ∙ u in
+          sym (g .same ∙ rw (more, z) (add-zero k))
+
+      pub passed : t ≡ false → Sought f s n (k + 1)
+      unfolding firstOf recordsFrom
+      passed u =
+          let z : f (recordAt s k) ≡ false = sym (e ∙ ap f d) ∙ u in
+          record { within = omega arith; same = g .same ∙ rw (more, z) (omega arith) }
+
+    pub all-sought : n ≤ k → k ≡ firstOf f (recordsFrom s 0 n)
+    unfolding firstOf recordsFrom
+    all-sought h =
+        let z : n - k ≡ 0 = omega arith in
+        sym (g .same ∙ rw z (add-zero k))

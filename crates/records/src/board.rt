@@ -1,0 +1,237 @@
+// A board's 72 bytes: reading them, writing them, and whether they are sound. From document 01, "Board".
+use crate::le::bit;
+use crate::le::put_pair;
+use crate::le::put16;
+use crate::le::put32;
+use crate::le::put64;
+use crate::le::read16;
+use crate::le::read32;
+use crate::le::read64;
+use model::Clock;
+use model::Contents;
+use model::PrefetchBuffer;
+use waits::in_window;
+use waits::waitcnt::WaitCnt;
+ghost use mathlib.Core.Path.{_≡_};
+ghost use mathlib.Core.List.{_++_, map};
+ghost use Prim.Native.Nat.{_+_, _≤_};
+ghost use lib.ListN.{length};
+ghost use Rattle.model.specs.Base.{bytes, encoded, field};
+ghost use Rattle.model.specs.BoardBytes as def;
+
+pub const BOARD_LENGTH: usize = 72;
+
+fn load_prefetch(board: &[u8], enabled: bool) -> PrefetchBuffer
+    requires { ⌜ length (now board) ≡ 72 ⌝ }
+    ensures { λ r. ⌜ r ≡ def.prefetchOf (now (board .entry)) enabled ⌝ }
+{
+    PrefetchBuffer {
+        head: board[3] as usize,
+        count: board[4] as usize,
+        next_addr: read32(board, 12),
+        wait_left: read32(board, 8),
+        head_addr: read32(board, 16),
+        enabled,
+        filling: board[5] == 1,
+        first_beat: board[6] == 1,
+    }
+}
+
+pub fn load_clock(board: &[u8]) -> Clock
+    requires { ⌜ length (now board) ≡ 72 ⌝ }
+    ensures { λ r. ⌜ r ≡ def.clockOf (now (board .entry)) ⌝ }
+{
+    let waitcnt = read16(board, 0);
+    let register = WaitCnt { raw: waitcnt };
+    let prefetch = load_prefetch(board, register.prefetch_enable());
+    Clock {
+        waitcnt,
+        force_next_fetch_n: board[2] == 1,
+        prefetch,
+    }
+}
+
+// The eight halfwords of the prefetch buffer.
+pub fn load_halves(board: &[u8]) -> [u16; 8]
+    requires { ⌜ length (now board) ≡ 72 ⌝ }
+    ensures { λ r. ⌜ r ≡ def.halvesFrom (now (board .entry)) 20 8 ⌝ }
+{
+    let h0 = read16(board, 20);
+    let h1 = read16(board, 22);
+    let h2 = read16(board, 24);
+    let h3 = read16(board, 26);
+    let h4 = read16(board, 28);
+    let h5 = read16(board, 30);
+    let h6 = read16(board, 32);
+    let h7 = read16(board, 34);
+    [h0, h1, h2, h3, h4, h5, h6, h7]
+}
+
+pub fn load_contents(board: &[u8]) -> Contents
+    requires { ⌜ length (now board) ≡ 72 ⌝ }
+    ensures { λ r. ⌜ r ≡ def.contentsOf (now (board .entry)) ⌝ }
+{
+    Contents {
+        cpu_pc: read32(board, 36),
+        last_bios_opcode: read32(board, 40),
+        vram_write_count: read64(board, 44),
+        oam_write_count: read64(board, 52),
+        palette_write_count: read64(board, 60),
+    }
+}
+
+// ---- soundness
+
+// Filling is 1 exactly when wait left is at least 1; then there is room, and next address lies in a ROM window.
+fn sound_beat(p: PrefetchBuffer) -> bool
+    ensures { λ r. ⌜ r ≡ def.soundBeat p ⌝ }
+{
+    if !p.filling {
+        return !(1 <= p.wait_left);
+    }
+    (1 <= p.wait_left) & ((p.count <= 7) & in_window(p.next_addr))
+}
+
+// The halfwords that stand run from head address to next address.
+fn sound_row(p: PrefetchBuffer) -> bool
+    requires { ⌜ p .count ≤ 8 ⌝ }
+    ensures { λ r. ⌜ r ≡ def.soundRow p ⌝ }
+{
+    if p.count == 0 {
+        return p.head_addr == 0;
+    }
+    if p.head_addr as u64 + 2 * p.count as u64 != p.next_addr as u64 {
+        return false;
+    }
+    in_window(p.head_addr) & in_window(p.next_addr - 2)
+}
+
+fn is_zero(p: PrefetchBuffer) -> bool
+    ensures { λ r. ⌜ r ≡ def.isZero p ⌝ }
+{
+    (p.head == 0)
+        & (p.count == 0)
+        & !p.filling
+        & !p.first_beat
+        & (p.wait_left == 0)
+        & (p.next_addr == 0)
+        & (p.head_addr == 0)
+}
+
+fn sound_prefetch(p: PrefetchBuffer) -> bool
+    ensures { λ r. ⌜ r ≡ def.soundPrefetch p ⌝ }
+{
+    if 8 < p.count {
+        return false;
+    }
+    let beat = sound_beat(p);
+    let row = sound_row(p);
+    let zero = is_zero(p);
+    (p.head <= 7) & (p.wait_left <= 9) & (p.next_addr % 2 == 0) & beat & row & (p.enabled | zero)
+}
+
+// Zero bytes are zero, flags are 0 or 1, and WAITCNT bit 13 is clear.
+fn sound_bytes(board: &[u8]) -> bool
+    requires { ⌜ length (now board) ≡ 72 ⌝ }
+    ensures { λ r. ⌜ r ≡ def.soundBytes (now (board .entry)) ⌝ }
+{
+    (board[7] == 0)
+        & (read32(board, 68) == 0)
+        & (board[2] <= 1)
+        & (board[5] <= 1)
+        & (board[6] <= 1)
+        & (read16(board, 0) / 0x2000 % 2 == 0)
+}
+
+// Whether bytes are a sound board, of whatever length they are.
+pub fn is_sound(board: &[u8]) -> bool
+    ensures { λ r. ⌜ r ≡ def.sound (now (board .entry)) ⌝ }
+{
+    if board.len() != BOARD_LENGTH {
+        return false;
+    }
+    let clock = load_clock(board);
+    let prefetch = clock.prefetch;
+    let bytes = sound_bytes(board);
+    bytes & sound_prefetch(prefetch)
+}
+
+// ---- writing
+
+// Bytes 0 to 7.
+fn put_flags(out: &mut [u8], clock: Clock)
+    requires { ⌜ length (now out) ≡ 8 ⌝ }
+    ensures { λ _. ⌜ now (out .exit) ≡ encoded (def.flagFields clock) ⌝ }
+{
+    let p = clock.prefetch;
+    put16(&mut out[0..2], clock.waitcnt);
+    out[2] = bit(clock.force_next_fetch_n);
+    out[3] = (p.head % 256) as u8;
+    out[4] = (p.count % 256) as u8;
+    out[5] = bit(p.filling);
+    out[6] = bit(p.first_beat);
+    out[7] = 0;
+}
+
+// Bytes 8 to 19.
+fn put_words(out: &mut [u8], p: PrefetchBuffer)
+    requires { ⌜ length (now out) ≡ 12 ⌝ }
+    ensures { λ _. ⌜ now (out .exit) ≡ encoded (def.wordFields p) ⌝ }
+{
+    put32(&mut out[0..4], p.wait_left);
+    put32(&mut out[4..8], p.next_addr);
+    put32(&mut out[8..12], p.head_addr);
+}
+
+// Bytes 0 to 19.
+fn put_clock(out: &mut [u8], clock: Clock)
+    requires { ⌜ length (now out) ≡ 20 ⌝ }
+    ensures { λ _. ⌜ now (out .exit) ≡ encoded (def.clockFields clock) ⌝ }
+{
+    let prefetch = clock.prefetch;
+    put_flags(&mut out[0..8], clock);
+    put_words(&mut out[8..20], prefetch);
+}
+
+// Bytes 20 to 35.
+fn put_halves(out: &mut [u8], halves: [u16; 8])
+    requires { ⌜ length (now out) ≡ 16 ⌝ }
+    ensures { λ _. ⌜ now (out .exit) ≡ encoded (map (field 2) halves) ⌝ }
+{
+    let mut i: usize = 0;
+    while i < 8 {
+        let at = 2 * i;
+        put16(&mut out[at..at + 2], halves[i]);
+        i += 1;
+    }
+}
+
+// Bytes 44 to 67.
+fn put_counters(out: &mut [u8], d: Contents)
+    requires { ⌜ length (now out) ≡ 24 ⌝ }
+    ensures { λ _. ⌜ now (out .exit) ≡ bytes 8 (d .«vram_write_count») ++ (bytes 8 (d .«oam_write_count») ++ bytes 8 (d .«palette_write_count»)) ⌝ }
+{
+    put64(&mut out[0..8], d.vram_write_count);
+    put64(&mut out[8..16], d.oam_write_count);
+    put64(&mut out[16..24], d.palette_write_count);
+}
+
+// Bytes 36 to 71.
+fn put_contents(out: &mut [u8], d: Contents)
+    requires { ⌜ length (now out) ≡ 36 ⌝ }
+    ensures { λ _. ⌜ now (out .exit) ≡ encoded (def.contentsFields d) ⌝ }
+{
+    put_pair(&mut out[0..8], d.cpu_pc, d.last_bios_opcode);
+    put_counters(&mut out[8..32], d);
+    put32(&mut out[32..36], 0);
+}
+
+// The whole board, written over what stood there.
+pub fn put_board(board: &mut [u8], clock: Clock, halves: [u16; 8], contents: Contents)
+    requires { ⌜ length (now board) ≡ 72 ⌝ }
+    ensures { λ _. ⌜ now (board .exit) ≡ def.boardBytes (record { clock = clock; halves = halves; contents = contents }) ⌝ }
+{
+    put_clock(&mut board[0..20], clock);
+    put_halves(&mut board[20..36], halves);
+    put_contents(&mut board[36..72], contents);
+}

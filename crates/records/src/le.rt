@@ -1,0 +1,81 @@
+// Numbers in little-endian bytes, read from a slice and written to one.
+ghost use mathlib.Core.Path.{_≡_};
+ghost use mathlib.Core.List.{_++_};
+ghost use Prim.Native.Nat.{_+_, _*_, _≤_, _<_};
+ghost use lib.ListN.{length};
+ghost use Rattle.model.specs.Base as def;
+
+// A byte; 0 past the end.
+pub fn byte_at(s: &[u8], at: usize) -> u8
+    ensures { λ r. ⌜ r ≡ def.byteAt (now (s .entry)) at ⌝ }
+{
+    if at < s.len() { s[at] } else { 0 }
+}
+
+pub fn half(a: u8, b: u8) -> u16
+    ensures { λ r. ⌜ r ≡ a + 256 * b ⌝ }
+{
+    a as u16 + 256 * b as u16
+}
+
+pub fn read16(s: &[u8], at: usize) -> u16
+    requires { ⌜ at + 2 ≤ length (now s) ⌝ }
+    ensures { λ r. ⌜ r ≡ def.number 2 (now (s .entry)) at ⌝ }
+{
+    half(s[at], s[at + 1])
+}
+
+pub fn read32(s: &[u8], at: usize) -> u32
+    requires { ⌜ at + 4 ≤ length (now s) ⌝ }
+    ensures { λ r. ⌜ r ≡ def.number 4 (now (s .entry)) at ⌝ }
+{
+    read16(s, at) as u32 + 0x1_0000 * read16(s, at + 2) as u32
+}
+
+pub fn read64(s: &[u8], at: usize) -> u64
+    requires { ⌜ at + 8 ≤ length (now s) ⌝ }
+    ensures { λ r. ⌜ r ≡ def.number 8 (now (s .entry)) at ⌝ }
+{
+    read32(s, at) as u64 + 0x1_0000_0000 * read32(s, at + 4) as u64
+}
+
+// A flag's byte.
+pub fn bit(b: bool) -> u8
+    ensures { λ r. ⌜ r ≡ def.bit b ⌝ }
+{
+    if b { 1 } else { 0 }
+}
+
+pub fn put16(out: &mut [u8], v: u16)
+    requires { ⌜ length (now out) ≡ 2 ⌝ }
+    ensures { λ _. ⌜ now (out .exit) ≡ def.bytes 2 v ⌝ }
+{
+    out[0] = (v % 256) as u8;
+    out[1] = (v / 256 % 256) as u8;
+}
+
+pub fn put32(out: &mut [u8], v: u32)
+    requires { ⌜ length (now out) ≡ 4 ⌝ }
+    ensures { λ _. ⌜ now (out .exit) ≡ def.bytes 4 v ⌝ }
+{
+    out[0] = (v % 256) as u8;
+    out[1] = (v / 256 % 256) as u8;
+    out[2] = (v / 256 / 256 % 256) as u8;
+    out[3] = (v / 256 / 256 / 256 % 256) as u8;
+}
+
+// Two words, one behind the other.
+pub fn put_pair(out: &mut [u8], low: u32, high: u32)
+    requires { ⌜ length (now out) ≡ 8 ⌝ }
+    ensures { λ _. ⌜ now (out .exit) ≡ def.bytes 4 low ++ def.bytes 4 high ⌝ }
+{
+    put32(&mut out[0..4], low);
+    put32(&mut out[4..8], high);
+}
+
+pub fn put64(out: &mut [u8], v: u64)
+    requires { ⌜ length (now out) ≡ 8 ⌝ }
+    ensures { λ _. ⌜ now (out .exit) ≡ def.bytes 8 v ⌝ }
+{
+    put_pair(out, (v % 0x1_0000_0000) as u32, (v / 0x1_0000_0000) as u32);
+}
