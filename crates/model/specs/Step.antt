@@ -12,9 +12,9 @@ use Rattle.model.specs.Wait.{window}
 use Rattle.model.specs.Prefetch.{newBuffer, setEnabled, restart, ticks, filled, hit, fetched}
 use Rattle.model.specs.Timing.{priceInsn}
 use Rattle.model.specs.Price.{dataCycles}
-use Rattle.model.specs.Video.{VideoMemory, PaletteRam, VideoRam, ObjectRam}
+use Rattle.model.specs.Video.{VideoMemory, PaletteRam, VideoRam, ObjectRam, fills}
 use Rattle.model.specs.Load.{Bus, load, load16}
-use Rattle.model.specs.Store.{puts, landed, modeOf, target, countAt, counted}
+use Rattle.model.specs.Store.{Target, Dropped, Plain, Video, Sram, puts, landed, modeOf, target, halfwords, counted}
 use Rattle.model.specs.declared.PrefetchBuffer.{PrefetchBuffer}
 use Rattle.model.specs.declared.TimingInput.{TimingInput}
 use Rattle.model.specs.declared.InsnCycles.{InsnCycles}
@@ -186,20 +186,35 @@ halvesAfter m s (Instruction isa a op changed) =
 halvesAfter m s (Pc a) = s .board .halves
 halvesAfter m s (Latch v) = s .board .halves
 
--- what a store adds to the counter of one video memory
-unfoldable pub count : VideoMemory → Media → State → AccessSize → ℕ → ℕ
-count which m s z a = countAt which (modeOf (m .lengths) (s .store)) z (target (m .lengths) a)
+abbrev pub withCounts : Contents → ℕ → ℕ → ℕ → Contents
+withCounts d vram oam palette =
+    record {
+      «cpu_pc» = d .«cpu_pc»;
+      «last_bios_opcode» = d .«last_bios_opcode»;
+      «vram_write_count» = vram;
+      «oam_write_count» = oam;
+      «palette_write_count» = palette;
+    }
+
+-- n halfwords go to the counter of a video memory
+abbrev pub countedIn : VideoMemory → ℕ → Contents → Contents
+countedIn PaletteRam n d = withCounts d (d .«vram_write_count») (d .«oam_write_count») (counted (d .«palette_write_count») n)
+countedIn VideoRam n d = withCounts d (counted (d .«vram_write_count») n) (d .«oam_write_count») (d .«palette_write_count»)
+countedIn ObjectRam n d = withCounts d (d .«vram_write_count») (counted (d .«oam_write_count») n) (d .«palette_write_count»)
+
+-- a store counts in the video memory that it meets
+abbrev pub countedAt : ℕ → AccessSize → Target → Contents → Contents
+countedAt mode z Dropped d = d
+countedAt mode z (Plain p i) d = d
+countedAt mode z (Video m p i) d = countedIn m (halfwords (fills mode m i) z) d
+countedAt mode z (Sram p i) d = d
+
+unfoldable pub countStore : Media → State → AccessSize → ℕ → Contents
+countStore m s z a = countedAt (modeOf (m .lengths) (s .store)) z (target (m .lengths) a) (s .board .contents)
 
 abbrev pub contentsAfter : Media → State → Step → Contents
 contentsAfter m s (Read z a) = s .board .contents
-contentsAfter m s (Write z a v) =
-    record {
-      «cpu_pc» = s .board .contents .«cpu_pc»;
-      «last_bios_opcode» = s .board .contents .«last_bios_opcode»;
-      «vram_write_count» = counted (s .board .contents .«vram_write_count») (count VideoRam m s z a);
-      «oam_write_count» = counted (s .board .contents .«oam_write_count») (count ObjectRam m s z a);
-      «palette_write_count» = counted (s .board .contents .«palette_write_count») (count PaletteRam m s z a);
-    }
+contentsAfter m s (Write z a v) = countStore m s z a
 contentsAfter m s (Waitcnt v) = s .board .contents
 contentsAfter m s (Idle n) = s .board .contents
 contentsAfter m s (Fetch a) = s .board .contents

@@ -4,7 +4,7 @@ use mathlib.Core.Bool.{Bool, true, false}
 use mathlib.Core.List.{List, [], _∷_, _++_}
 use Prim.Native.Nat.{ℕ, _+_, _-_, _*_, _/_, _%_, _^_, min}
 use lib.ListN.{set}
-use lib.Dec.{ltb, eqb}
+use lib.Dec.{ltb}
 use Rattle.model.specs.Base.{if_then_else_, bit, further, lowered, byteOf}
 use Rattle.model.specs.Region.{decode}
 use Rattle.model.specs.Mirror.{ewramOffset, iwramOffset, ioOffset, paletteOffset, vramOffset, oamOffset, sramOffset}
@@ -130,21 +130,6 @@ videoCount mode z Dropped = 0
 videoCount mode z (Plain p i) = 0
 videoCount mode z (Video m p i) = halfwords (fills mode m i) z
 videoCount mode z (Sram p i) = 0
-
-abbrev pub videoIndex : VideoMemory → ℕ
-videoIndex PaletteRam = 0
-videoIndex VideoRam = 1
-videoIndex ObjectRam = 2
-
--- whether a store goes to one of the video memories, whose counter then takes its count
-abbrev pub goesTo : VideoMemory → Target → Bool
-goesTo which Dropped = false
-goesTo which (Plain p i) = false
-goesTo which (Video m p i) = eqb (videoIndex which) (videoIndex m)
-goesTo which (Sram p i) = false
-
-abbrev pub countAt : VideoMemory → ℕ → AccessSize → Target → ℕ
-countAt which mode z t = if goesTo which t then videoCount mode z t else 0
 
 -- a counter stops at 2^64 - 1
 abbrev pub counted : ℕ → ℕ → ℕ

@@ -16,7 +16,7 @@ use Rattle.model.specs.Price.{dataCycles}
 use Rattle.model.specs.Video.{objVramBase, isObjVram}
 use Rattle.model.specs.Load.{byteIn, sramByte, biosByte, load8, load16, load32}
 use Rattle.model.specs.Store.{put, putHalf, target, modeOf, puts8, puts16, putsPair, puts32}
-use Rattle.model.specs.Step.{Media, State, Result, setWaitcnt, codeHits, codeFetched, halfAt, count, run, freshBoard}
+use Rattle.model.specs.Step.{Media, State, Result, setWaitcnt, codeHits, codeFetched, halfAt, countStore, run, freshBoard}
 use Rattle.model.specs.declared.Lengths.{Lengths}
 use Rattle.model.specs.declared.Answer.{Answer}
 use Rattle.model.specs.declared.Region.the-variants.{Ewram, Vram}
@@ -27,7 +27,7 @@ use Rattle.model.specs.declared.Step.the-variants.{Read, Write, Waitcnt,
 
 -- to unfold this is to unfold the whole machine
 unfoldable pub machine : Unit {0}
-unfolding decode vramOffset ioOffset written prefetchEnable nWaits sWaits romWaits window kindAt romHalfCycles setEnabled restart startBeat arrived ended advance ready tick1 ticks arrives filled occupied hit taken fetched armInternal thumbInternal romHalf plainFetch fetchCycles cartIdle disableBug priceInsn dataCycles objVramBase isObjVram byteIn sramByte biosByte load8 load16 load32 put putHalf target modeOf puts8 puts16 putsPair puts32 setWaitcnt codeHits codeFetched halfAt count run
+unfolding decode vramOffset ioOffset written prefetchEnable nWaits sWaits romWaits window kindAt romHalfCycles setEnabled restart startBeat arrived ended advance ready tick1 ticks arrives filled occupied hit taken fetched armInternal thumbInternal romHalf plainFetch fetchCycles cartIdle disableBug priceInsn dataCycles objVramBase isObjVram byteIn sramByte biosByte load8 load16 load32 put putHalf target modeOf puts8 puts16 putsPair puts32 setWaitcnt codeHits codeFetched halfAt countStore run
 machine = tt
 
 -- ---- a run from the fresh board
