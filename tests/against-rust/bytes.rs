@@ -1,0 +1,282 @@
+//! Document 01's byte layouts: sheet, record, answer, board; and when a board is sound.
+
+/// What is lent to one run. `lengths` are the seven lengths as given, in the store's order:
+/// EWRAM, IWRAM, I/O, palette, VRAM, OAM, SRAM. Nothing here need be well formed.
+#[derive(Clone)]
+pub struct Case {
+    pub sheet: Vec<u8>,
+    pub board: Vec<u8>,
+    pub store: Vec<u8>,
+    pub bios: Vec<u8>,
+    pub rom: Vec<u8>,
+    pub answers: Vec<u8>,
+    pub lengths: [usize; 7],
+}
+
+/// The run's result as it crosses the C boundary.
+#[repr(C)]
+#[derive(Clone, Copy, Debug, PartialEq, Eq)]
+pub struct Report {
+    pub number: u32,
+    pub index: u32,
+    pub total: u64,
+}
+
+/// Everything that a run gives back or may have changed.
+#[derive(Clone)]
+pub struct Outcome {
+    pub report: Report,
+    pub board: Vec<u8>,
+    pub store: Vec<u8>,
+    pub answers: Vec<u8>,
+}
+
+pub const HEADER: usize = 8;
+pub const RECORD: usize = 12;
+pub const ANSWER: usize = 12;
+pub const BOARD: usize = 72;
+pub const MOST_RECORDS: usize = 4096;
+
+pub const READ: u8 = 1;
+pub const WRITE: u8 = 2;
+pub const WAITCNT: u8 = 3;
+pub const IDLE: u8 = 4;
+pub const FETCH: u8 = 5;
+pub const RESTART: u8 = 6;
+pub const INSTRUCTION: u8 = 7;
+pub const PC: u8 = 8;
+pub const LATCH: u8 = 9;
+
+pub fn u16_at(b: &[u8], at: usize) -> u16 {
+    u16::from_le_bytes([b[at], b[at + 1]])
+}
+
+pub fn u32_at(b: &[u8], at: usize) -> u32 {
+    u32::from_le_bytes([b[at], b[at + 1], b[at + 2], b[at + 3]])
+}
+
+pub fn u64_at(b: &[u8], at: usize) -> u64 {
+    u64::from(u32_at(b, at)) | u64::from(u32_at(b, at + 4)) << 32
+}
+
+// ---- sheet ----
+
+/// The number of records that the header names.
+pub fn record_count(sheet: &[u8]) -> usize {
+    usize::from(u16_at(sheet, 6))
+}
+
+/// A version 1 sheet of these records.
+pub fn sheet_of(records: &[Record]) -> Vec<u8> {
+    let mut bytes = vec![b'B', b'T', b'S', 1, 0, 0];
+    bytes.extend((records.len() as u16).to_le_bytes());
+    for r in records {
+        bytes.extend(r.bytes());
+    }
+    bytes
+}
+
+/// The records that fit whole into the sheet, whatever its header says.
+pub fn records_of(sheet: &[u8]) -> Vec<Record> {
+    sheet.get(HEADER..).unwrap_or(&[]).chunks_exact(RECORD).map(Record::of).collect()
+}
+
+// ---- record ----
+
+#[derive(Clone, Copy, Debug, PartialEq, Eq)]
+pub struct Record {
+    pub kind: u8,
+    pub size: u8,
+    pub flag: u8,
+    pub zero: u8,
+    pub address: u32,
+    pub value: u32,
+}
+
+impl Record {
+    /// A record whose flag and zero byte are 0.
+    pub fn new(kind: u8, size: u8, address: u32, value: u32) -> Record {
+        Record { kind, size, flag: 0, zero: 0, address, value }
+    }
+
+    pub fn of(b: &[u8]) -> Record {
+        Record {
+            kind: b[0],
+            size: b[1],
+            flag: b[2],
+            zero: b[3],
+            address: u32_at(b, 4),
+            value: u32_at(b, 8),
+        }
+    }
+
+    pub fn bytes(&self) -> [u8; RECORD] {
+        let mut b = [0; RECORD];
+        b[0] = self.kind;
+        b[1] = self.size;
+        b[2] = self.flag;
+        b[3] = self.zero;
+        b[4..8].copy_from_slice(&self.address.to_le_bytes());
+        b[8..12].copy_from_slice(&self.value.to_le_bytes());
+        b
+    }
+
+    /// Outside the table of kinds, or a size that its kind doesn't have (the first pass).
+    pub fn kind_or_size_faulty(&self) -> bool {
+        match self.kind {
+            READ | WRITE => ![1, 2, 4].contains(&self.size),
+            INSTRUCTION => ![2, 4].contains(&self.size),
+            WAITCNT | IDLE | FETCH | RESTART | PC | LATCH => self.size != 0,
+            _ => true,
+        }
+    }
+
+    /// A field that the kind doesn't use and that isn't 0, or one out of its range (the second pass).
+    pub fn fields_faulty(&self) -> bool {
+        let flag_wrong = if self.kind == INSTRUCTION { self.flag > 1 } else { self.flag != 0 };
+        let address_wrong = matches!(self.kind, WAITCNT | IDLE | LATCH) && self.address != 0;
+        let value_wrong = match self.kind {
+            READ | FETCH | RESTART | PC => self.value != 0,
+            WAITCNT => self.value > 65_535,
+            _ => false,
+        };
+        self.zero != 0 || flag_wrong || address_wrong || value_wrong
+    }
+
+    pub fn faulty(&self) -> bool {
+        self.kind_or_size_faulty() || self.fields_faulty()
+    }
+}
+
+// ---- answer ----
+
+#[derive(Clone, Copy, Debug, PartialEq, Eq)]
+pub struct Answer {
+    pub value: u32,
+    pub cycles: u32,
+    pub hits: u8,
+    pub count: u8,
+    pub force: u8,
+}
+
+impl Answer {
+    pub fn of(b: &[u8]) -> Answer {
+        Answer { value: u32_at(b, 0), cycles: u32_at(b, 4), hits: b[8], count: b[9], force: b[10] }
+    }
+
+    pub fn bytes(&self) -> [u8; ANSWER] {
+        let mut b = [0; ANSWER];
+        b[0..4].copy_from_slice(&self.value.to_le_bytes());
+        b[4..8].copy_from_slice(&self.cycles.to_le_bytes());
+        b[8] = self.hits;
+        b[9] = self.count;
+        b[10] = self.force;
+        b
+    }
+}
+
+// ---- board ----
+
+#[derive(Clone, Copy, Debug, Default, PartialEq, Eq)]
+pub struct Board {
+    pub waitcnt: u16,
+    pub force: u8,
+    pub head: u8,
+    pub count: u8,
+    pub filling: u8,
+    pub first_beat: u8,
+    pub zero_7: u8,
+    pub wait_left: u32,
+    pub next: u32,
+    pub head_addr: u32,
+    pub halfwords: [u16; 8],
+    pub pc: u32,
+    pub latch: u32,
+    pub vram: u64,
+    pub oam: u64,
+    pub palette: u64,
+    pub zero_68: u32,
+}
+
+impl Board {
+    /// The fields of 72 bytes.
+    pub fn of(b: &[u8]) -> Board {
+        let mut halfwords = [0; 8];
+        for (i, h) in halfwords.iter_mut().enumerate() {
+            *h = u16_at(b, 20 + 2 * i);
+        }
+        Board {
+            waitcnt: u16_at(b, 0),
+            force: b[2],
+            head: b[3],
+            count: b[4],
+            filling: b[5],
+            first_beat: b[6],
+            zero_7: b[7],
+            wait_left: u32_at(b, 8),
+            next: u32_at(b, 12),
+            head_addr: u32_at(b, 16),
+            halfwords,
+            pc: u32_at(b, 36),
+            latch: u32_at(b, 40),
+            vram: u64_at(b, 44),
+            oam: u64_at(b, 52),
+            palette: u64_at(b, 60),
+            zero_68: u32_at(b, 68),
+        }
+    }
+
+    pub fn bytes(&self) -> Vec<u8> {
+        let mut b = Vec::with_capacity(BOARD);
+        b.extend(self.waitcnt.to_le_bytes());
+        b.extend([self.force, self.head, self.count, self.filling, self.first_beat, self.zero_7]);
+        b.extend(self.wait_left.to_le_bytes());
+        b.extend(self.next.to_le_bytes());
+        b.extend(self.head_addr.to_le_bytes());
+        for h in self.halfwords {
+            b.extend(h.to_le_bytes());
+        }
+        b.extend(self.pc.to_le_bytes());
+        b.extend(self.latch.to_le_bytes());
+        b.extend(self.vram.to_le_bytes());
+        b.extend(self.oam.to_le_bytes());
+        b.extend(self.palette.to_le_bytes());
+        b.extend(self.zero_68.to_le_bytes());
+        assert_eq!(b.len(), BOARD);
+        b
+    }
+
+    pub fn prefetch_on(&self) -> bool {
+        self.waitcnt & 0x4000 != 0
+    }
+
+    /// Document 01's rule, clause by clause. Addresses are widened, so nothing here wraps.
+    pub fn sound(&self) -> bool {
+        let next = i64::from(self.next);
+        let head_addr = i64::from(self.head_addr);
+        let filling = self.filling == 1;
+        let zeros = self.zero_7 == 0 && self.zero_68 == 0;
+        let flags = self.force <= 1 && self.filling <= 1 && self.first_beat <= 1;
+        let bit_13 = self.waitcnt & 0x2000 == 0;
+        let ranges = self.head <= 7 && self.count <= 8 && self.wait_left <= 9;
+        let beat = filling == (self.wait_left >= 1);
+        let even = next % 2 == 0;
+        let room = !filling || (self.count <= 7 && in_rom_window(next));
+        let span = if self.count == 0 {
+            head_addr == 0
+        } else {
+            in_rom_window(head_addr)
+                && in_rom_window(next - 2)
+                && head_addr + 2 * i64::from(self.count) == next
+        };
+        let nothing = [self.head, self.count, self.filling, self.first_beat] == [0; 4]
+            && [self.wait_left, self.next, self.head_addr] == [0; 3];
+        let switch = self.prefetch_on() || nothing;
+        zeros && flags && bit_13 && ranges && beat && even && room && span && switch
+    }
+}
+
+/// Windows by top byte: 0x08–0x09, 0x0A–0x0B, 0x0C–0x0D.
+pub fn in_rom_window(address: i64) -> bool {
+    (0x0800_0000..=0x0DFF_FFFF).contains(&address)
+}

@@ -1,0 +1,193 @@
+//! The library's run on guarded copies of what is lent, and its comparison with the Rust's.
+
+use crate::bytes::*;
+
+extern "C" {
+    fn bts_run(
+        sheet: *const u8, sheet_len: usize, board: *mut u8, board_len: usize,
+        store: *mut u8, store_len: usize, bios: *const u8, bios_len: usize,
+        rom: *const u8, rom_len: usize, answers: *mut u8, answers_len: usize,
+        ewram: usize, iwram: usize, io: usize, palette: usize, vram: usize, oam: usize, sram: usize,
+    ) -> Report;
+}
+
+/// The memories of the store, in its order.
+pub const NAMES: [&str; 7] = ["EWRAM", "IWRAM", "I/O", "palette", "VRAM", "OAM", "SRAM"];
+
+const GUARD: usize = 61; // odd, so that the lent bytes are not aligned
+
+/// The guard bytes: none is 0 or 0xFF, which a load past a memory's end gives.
+fn guard(i: usize) -> u8 {
+    (0x40 + i % 128) as u8
+}
+
+/// A copy of some bytes with guard bytes on both sides; the room is kept from case to case.
+#[derive(Default)]
+struct Lent {
+    room: Vec<u8>,
+    len: usize,
+}
+
+impl Lent {
+    fn lend(&mut self, bytes: &[u8]) -> *mut u8 {
+        self.len = bytes.len();
+        self.room.clear();
+        self.room.extend((0..GUARD).map(guard));
+        self.room.extend_from_slice(bytes);
+        self.room.extend((0..GUARD).map(guard));
+        self.room[GUARD..].as_mut_ptr()
+    }
+
+    fn bytes(&self) -> &[u8] {
+        &self.room[GUARD..GUARD + self.len]
+    }
+
+    fn guards_kept(&self) -> bool {
+        let (before, rest) = self.room.split_at(GUARD);
+        let after = &rest[self.len..];
+        before.iter().chain(after).copied().eq((0..GUARD).chain(0..GUARD).map(guard))
+    }
+}
+
+/// The library, with the rooms that are lent to it.
+#[derive(Default)]
+pub struct Library {
+    sheet: Lent,
+    board: Lent,
+    store: Lent,
+    bios: Lent,
+    rom: Lent,
+    answers: Lent,
+}
+
+impl Library {
+    /// Runs the case; an error tells what was changed that no run may change.
+    pub fn run(&mut self, case: &Case) -> Result<Outcome, String> {
+        let [ewram, iwram, io, palette, vram, oam, sram] = case.lengths;
+        let sheet = self.sheet.lend(&case.sheet);
+        let board = self.board.lend(&case.board);
+        let store = self.store.lend(&case.store);
+        let bios = self.bios.lend(&case.bios);
+        let rom = self.rom.lend(&case.rom);
+        let answers = self.answers.lend(&case.answers);
+        // each pointer is to so many bytes of a room of its own, which nothing else uses meanwhile
+        let report = unsafe {
+            bts_run(
+                sheet, case.sheet.len(), board, case.board.len(), store, case.store.len(),
+                bios, case.bios.len(), rom, case.rom.len(), answers, case.answers.len(),
+                ewram, iwram, io, palette, vram, oam, sram,
+            )
+        };
+        self.untouched(case)?;
+        Ok(Outcome {
+            report,
+            board: self.board.bytes().to_vec(),
+            store: self.store.bytes().to_vec(),
+            answers: self.answers.bytes().to_vec(),
+        })
+    }
+
+    fn untouched(&self, case: &Case) -> Result<(), String> {
+        let read_only = [
+            ("sheet", &self.sheet, &case.sheet),
+            ("BIOS", &self.bios, &case.bios),
+            ("ROM", &self.rom, &case.rom),
+        ];
+        for (name, lent, before) in read_only {
+            if lent.bytes() != &before[..] {
+                return Err(format!("{name} was changed"));
+            }
+        }
+        let all = [
+            ("sheet", &self.sheet), ("board", &self.board), ("store", &self.store),
+            ("BIOS", &self.bios), ("ROM", &self.rom), ("answers", &self.answers),
+        ];
+        match all.iter().find(|(_, lent)| !lent.guards_kept()) {
+            Some((name, _)) => Err(format!("a byte just outside {name} was changed")),
+            None => Ok(()),
+        }
+    }
+}
+
+/// The first field in which the two outcomes differ, in words.
+pub fn first_difference(case: &Case, rust: &Outcome, library: &Outcome) -> Option<String> {
+    let (r, l) = (rust.report, library.report);
+    if r != l {
+        return Some(format!("report: Rust {r:?}, library {l:?}"));
+    }
+    if let Some(i) = first_byte(&rust.answers, &library.answers) {
+        return Some(answer_difference(case, rust, library, i));
+    }
+    if let Some(i) = first_byte(&rust.board, &library.board) {
+        let (r, l) = (rust.board[i], library.board[i]);
+        return Some(format!("board byte {i}: Rust {r:#04X}, library {l:#04X}"));
+    }
+    let i = first_byte(&rust.store, &library.store)?;
+    let (r, l) = (rust.store[i], library.store[i]);
+    Some(format!("store byte {i} ({}): Rust {r:#04X}, library {l:#04X}", place_in_store(case, i)))
+}
+
+fn first_byte(a: &[u8], b: &[u8]) -> Option<usize> {
+    assert_eq!(a.len(), b.len());
+    if a == b {
+        return None;
+    }
+    a.iter().zip(b).position(|(x, y)| x != y)
+}
+
+fn answer_difference(case: &Case, rust: &Outcome, library: &Outcome, i: usize) -> String {
+    let k = i / ANSWER;
+    let records = records_of(&case.sheet);
+    if rust.report.number != 0 || k >= records.len() {
+        let (r, l) = (rust.answers[i], library.answers[i]);
+        return format!("answer byte {i}, which must stay: Rust {r:#04X}, library {l:#04X}");
+    }
+    let answer = |o: &Outcome| Answer::of(&o.answers[ANSWER * k..]);
+    let step = records[k];
+    format!(
+        "answer of step {k}, byte {}, of {step:X?}: Rust {:X?}, library {:X?}",
+        i % ANSWER, answer(rust), answer(library)
+    )
+}
+
+/// The memory and offset of a byte of the store.
+fn place_in_store(case: &Case, i: usize) -> String {
+    let mut start = 0;
+    for (name, length) in NAMES.iter().zip(case.lengths) {
+        if i - start < length {
+            return format!("{name} offset {:#X}", i - start);
+        }
+        start += length;
+    }
+    "outside the seven".to_string()
+}
+
+// ---- telling one case in full ----
+
+pub fn tell(case: &Case, rust: &Outcome, library: &Outcome) {
+    let (store, bios, rom) = (case.store.len(), case.bios.len(), case.rom.len());
+    println!("lengths {:?}, store {store}, BIOS {bios}, ROM {rom}", case.lengths);
+    let header = &case.sheet[..case.sheet.len().min(HEADER)];
+    println!("sheet of {} bytes, header {header:02X?}", case.sheet.len());
+    tell_board("before ", &case.board);
+    for (k, r) in records_of(&case.sheet).iter().enumerate() {
+        let answer = |o: &Outcome| o.answers.get(ANSWER * k..ANSWER * (k + 1)).map(Answer::of);
+        let (a, b) = (answer(rust), answer(library));
+        let mark = if a == b { "" } else { "   <<<" };
+        println!("{k} {r:X?}\n    Rust    {a:X?}\n    library {b:X?}{mark}");
+    }
+    tell_board("Rust   ", &rust.board);
+    tell_board("library", &library.board);
+    println!("Rust    {:?}\nlibrary {:?}", rust.report, library.report);
+    for i in (0..case.store.len()).filter(|&i| rust.store[i] != library.store[i]).take(40) {
+        let (place, r, l) = (place_in_store(case, i), rust.store[i], library.store[i]);
+        println!("store byte {i} ({place}): Rust {r:#04X}, library {l:#04X}");
+    }
+}
+
+fn tell_board(whose: &str, bytes: &[u8]) {
+    match bytes.len() {
+        BOARD => println!("board {whose} {:X?}", Board::of(bytes)),
+        other => println!("board {whose} of {other} bytes"),
+    }
+}

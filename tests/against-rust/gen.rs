@@ -1,0 +1,257 @@
+//! Seeded cases: all of a case follows from its seed, so that any case can be run again.
+
+use crate::boards;
+use crate::bytes::*;
+use crate::machine::{BIOS_SIZE, ROM_WINDOW_SIZE, SIZES};
+use crate::refusals;
+use crate::steps::Steps;
+
+// ---- numbers ----
+
+/// A xorshift generator (64 bits, shifts 13, 7, 17); the seed is spread first.
+pub struct Rng(u64);
+
+impl Rng {
+    pub fn new(seed: u64) -> Rng {
+        let mut z = seed.wrapping_add(0x9E37_79B9_7F4A_7C15);
+        z = (z ^ z >> 30).wrapping_mul(0xBF58_476D_1CE4_E5B9);
+        z = (z ^ z >> 27).wrapping_mul(0x94D0_49BB_1331_11EB);
+        Rng((z ^ z >> 31) | 1)
+    }
+
+    pub fn next(&mut self) -> u64 {
+        self.0 ^= self.0 << 13;
+        self.0 ^= self.0 >> 7;
+        self.0 ^= self.0 << 17;
+        self.0
+    }
+
+    pub fn u32(&mut self) -> u32 {
+        (self.next() >> 24) as u32
+    }
+
+    /// 0 to n − 1.
+    pub fn below(&mut self, n: usize) -> usize {
+        ((self.next() >> 20) % n as u64) as usize
+    }
+
+    /// True p times in a hundred.
+    pub fn percent(&mut self, p: usize) -> bool {
+        self.below(100) < p
+    }
+
+    pub fn pick<T: Copy>(&mut self, from: &[T]) -> T {
+        from[self.below(from.len())]
+    }
+
+    /// `at` moved by −down to +up, modulo 2^32.
+    pub fn near(&mut self, at: u32, down: usize, up: usize) -> u32 {
+        let by = self.below(down + up + 1) as u32;
+        at.wrapping_sub(down as u32).wrapping_add(by)
+    }
+
+    pub fn bytes(&mut self, len: usize) -> Vec<u8> {
+        let mut out = Vec::with_capacity(len + 8);
+        while out.len() < len {
+            out.extend_from_slice(&self.next().to_le_bytes());
+        }
+        out.truncate(len);
+        out
+    }
+}
+
+// ---- plans: a case but for what its memories hold ----
+
+pub struct Plan {
+    pub sheet: Vec<u8>,
+    pub board: Vec<u8>,
+    pub lengths: [usize; 7],
+    pub store_len: usize,
+    pub bios_len: usize,
+    pub rom_len: usize,
+    pub answers_len: usize,
+    /// The number that the run must give by the way the case was made, where that is known.
+    /// It holds the Rust side's refusals against a second view.
+    pub meant: Option<u32>,
+}
+
+/// The four buffers whose contents before the run a plan leaves open.
+pub const STORE: u64 = 1;
+pub const BIOS: u64 = 2;
+pub const ROM: u64 = 3;
+pub const ANSWERS: u64 = 4;
+
+impl Plan {
+    /// The case, with contents given by tag and length.
+    pub fn case(&self, mut contents: impl FnMut(u64, usize) -> Vec<u8>) -> Case {
+        Case {
+            sheet: self.sheet.clone(),
+            board: self.board.clone(),
+            lengths: self.lengths,
+            store: contents(STORE, self.store_len),
+            bios: contents(BIOS, self.bios_len),
+            rom: contents(ROM, self.rom_len),
+            answers: contents(ANSWERS, self.answers_len),
+        }
+    }
+
+    pub fn random_case(&self, rng: &mut Rng) -> Case {
+        self.case(|_, len| rng.bytes(len))
+    }
+
+    /// The case over memories that follow from a number by a rule, as in the recorded sample.
+    pub fn rule_case(&self, seed: u32) -> Case {
+        self.case(|tag, len| (0..len).map(|i| rule_byte(seed, tag, i)).collect())
+    }
+
+    /// An accepted plan of these records over these memories.
+    pub fn accepted(board: Board, memories: &Memories, records: &[Record]) -> Plan {
+        Plan {
+            sheet: sheet_of(records),
+            board: board.bytes(),
+            lengths: memories.lengths,
+            store_len: memories.lengths.iter().sum(),
+            bios_len: memories.bios,
+            rom_len: memories.rom,
+            answers_len: ANSWER * records.len(),
+            meant: Some(0),
+        }
+    }
+}
+
+/// Byte i of the buffer `tag` under fill seed `seed`.
+pub fn rule_byte(seed: u32, tag: u64, i: usize) -> u8 {
+    let i = i as u64;
+    ((i * 31 + (i / 256) * 17 + u64::from(seed) * 13 + tag * 101) % 251) as u8
+}
+
+// ---- lengths ----
+
+pub struct Memories {
+    pub lengths: [usize; 7],
+    pub bios: usize,
+    pub rom: usize,
+}
+
+const IO_ENDS: [usize; 14] =
+    [0, 1, 2, 3, 0x204, 0x205, 0x206, 0x3FF, 0x400, 0x401, 0x800, 0x801, 0x803, 0x804];
+
+impl Memories {
+    /// Lengths of 0, 1, odd ones, short ones and full ones, each memory by itself.
+    /// `large` in a hundred of the memories are full or nearly so.
+    pub fn random(rng: &mut Rng, large: usize) -> Memories {
+        let mut lengths = [0; 7];
+        for (length, size) in lengths.iter_mut().zip(SIZES) {
+            *length = length_up_to(rng, size, large);
+        }
+        if rng.percent(50) {
+            // I/O is small, and its ends are worth more
+            lengths[2] = rng.pick(&IO_ENDS);
+        }
+        Memories { lengths, bios: length_up_to(rng, BIOS_SIZE, large), rom: rom_length(rng, large) }
+    }
+}
+
+fn length_up_to(rng: &mut Rng, size: usize, large: usize) -> usize {
+    if rng.percent(large) {
+        return size - rng.pick(&[0, 0, 0, 1, 2, 3]);
+    }
+    match rng.below(8) {
+        0 => 0,
+        1 => 1,
+        2 => 2 * rng.below(32) + 1,
+        3 | 4 => rng.below(65),
+        5 => 1 << rng.below(10),
+        6 => rng.below(1025),
+        _ => rng.below(size.min(8192) + 1),
+    }
+}
+
+fn rom_length(rng: &mut Rng, large: usize) -> usize {
+    if large > 0 && rng.below(30_000) == 0 {
+        return ROM_WINDOW_SIZE - rng.pick(&[0, 0, 1, 2]);
+    }
+    if rng.percent(large) {
+        return rng.pick(&[65_535, 65_536, 0x1FFFF, 0x20000, 0x20001, 0x20040, 0x40011]);
+    }
+    match rng.below(6) {
+        0 => rng.below(2),
+        1 => 2 * rng.below(400) + 1,
+        2 => 0x100 + rng.below(64),
+        3 => rng.below(513),
+        _ => rng.below(4097),
+    }
+}
+
+// ---- cases ----
+
+/// A random case: mostly an accepted run, else one refusal or several, or random damage.
+pub fn random(seed: u64) -> (Plan, Case) {
+    let mut rng = Rng::new(seed);
+    let plan = random_plan(&mut rng);
+    let case = plan.random_case(&mut rng);
+    (plan, case)
+}
+
+pub fn random_plan(rng: &mut Rng) -> Plan {
+    match rng.below(100) {
+        0..=84 => accepted(rng, 2),
+        85..=89 => refusals::one(rng),
+        90..=94 => refusals::several(rng),
+        _ => refusals::damaged(rng),
+    }
+}
+
+/// A list of 0 to 60 steps from a sound board, with answers lent a little longer at times.
+pub fn accepted(rng: &mut Rng, large: usize) -> Plan {
+    let memories = Memories::random(rng, large);
+    let board = boards::any_sound(rng);
+    let n = match rng.below(400) {
+        0 => rng.below(MOST_RECORDS + 1),
+        1..=6 => rng.below(400),
+        _ => rng.below(61),
+    };
+    let records = if rng.percent(35) {
+        Steps::new(rng, &memories).code_run(n, &board)
+    } else {
+        Steps::new(rng, &memories).mixed(n)
+    };
+    let mut plan = Plan::accepted(board, &memories, &records);
+    if rng.percent(40) {
+        plan.answers_len += rng.below(30);
+    }
+    plan
+}
+
+/// Two accepted runs with alike sheets and alike boards, all else different (demand 3).
+pub fn pair(seed: u64) -> (Case, Case) {
+    let mut rng = Rng::new(seed);
+    let first = accepted(&mut rng, 2);
+    let memories = Memories::random(&mut rng, 2);
+    let records: Vec<Record> =
+        records_of(&first.sheet).into_iter().map(|r| alike_record(&mut rng, r)).collect();
+    let board = alike_board(&mut rng, Board::of(&first.board));
+    let second = Plan::accepted(board, &memories, &records);
+    (first.random_case(&mut rng), second.random_case(&mut rng))
+}
+
+/// The record with another value, if it is a WRITE or a LATCH.
+fn alike_record(rng: &mut Rng, r: Record) -> Record {
+    match r.kind {
+        WRITE | LATCH => Record { value: rng.u32(), ..r },
+        _ => r,
+    }
+}
+
+/// The board with other bytes 20–35 and 40–67.
+fn alike_board(rng: &mut Rng, b: Board) -> Board {
+    let other = boards::any_sound(rng);
+    Board {
+        halfwords: other.halfwords,
+        latch: other.latch,
+        vram: other.vram,
+        oam: other.oam,
+        palette: other.palette,
+        ..b
+    }
+}

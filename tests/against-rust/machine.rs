@@ -1,0 +1,297 @@
+//! Document 01's run, done by calling the unchanged Rust: this is what the library is held against.
+//! The refusals, the order of a step's calls and the data price are document 01's own ("added").
+
+use crate::bytes::*;
+use graycart::bus::prefetch::PrefetchParts;
+use graycart::bus::region::{
+    decode, Region, EWRAM_SIZE, IO_SIZE, IWRAM_SIZE, OAM_SIZE, PALETTE_SIZE, SRAM_WINDOW_SIZE,
+    VRAM_SIZE,
+};
+pub use graycart::bus::region::{BIOS_SIZE, ROM_WINDOW_SIZE};
+use graycart::bus::wait::{AccessKind, AccessSize, RomWindow, WaitTables};
+use graycart::bus::{Bus, CpuMem, OpenBusState, PrefetchBuffer, WaitCnt};
+use graycart::cpu::timing::{price_insn, TimingInput};
+use graycart::cpu::IsaState;
+
+/// The sizes of the seven memories of the store, in its order.
+pub const SIZES: [usize; 7] =
+    [EWRAM_SIZE, IWRAM_SIZE, IO_SIZE, PALETTE_SIZE, VRAM_SIZE, OAM_SIZE, SRAM_WINDOW_SIZE];
+
+// ---- the run ----
+
+/// The whole run: a refusal that leaves every byte, or all records in order.
+pub fn run(case: &Case) -> Outcome {
+    if let Some((number, index)) = refusal(case) {
+        return Outcome {
+            report: Report { number, index, total: 0 },
+            board: case.board.clone(),
+            store: case.store.clone(),
+            answers: case.answers.clone(),
+        };
+    }
+    let mut machine = Machine::new(case);
+    let mut answers = case.answers.clone();
+    let records = records_of(&case.sheet);
+    let mut total = 0u64;
+    for (k, record) in records.iter().enumerate() {
+        let answer = machine.step(record);
+        total += u64::from(answer.cycles);
+        answers[ANSWER * k..ANSWER * (k + 1)].copy_from_slice(&answer.bytes());
+    }
+    Outcome {
+        report: Report { number: 0, index: records.len() as u32, total },
+        board: machine.board().bytes(),
+        store: machine.store(),
+        answers,
+    }
+}
+
+/// The first condition of document 01's table that is met, as (number, index).
+pub fn refusal(case: &Case) -> Option<(u32, u32)> {
+    let sheet = &case.sheet;
+    if sheet.len() < HEADER || sheet[0..3] != *b"BTS" {
+        return Some((1, 0));
+    }
+    if u16_at(sheet, 3) != 1 {
+        return Some((2, 0));
+    }
+    let n = record_count(sheet);
+    if sheet[5] != 0 || n > MOST_RECORDS || sheet.len() != HEADER + RECORD * n {
+        return Some((3, 0));
+    }
+    if lengths_refused(case) {
+        return Some((4, 0));
+    }
+    if case.board.len() != BOARD || !Board::of(&case.board).sound() {
+        return Some((5, 0));
+    }
+    if case.answers.len() < ANSWER * n {
+        return Some((6, 0));
+    }
+    // two passes, each reporting its first faulty record: together the lowest record faulty in either
+    let least = records_of(sheet).iter().position(Record::faulty)?;
+    Some((7, least as u32))
+}
+
+/// A length over its size, or seven lengths that don't add up to the store (added wide: no wrap).
+fn lengths_refused(case: &Case) -> bool {
+    let over = case.lengths.iter().zip(SIZES).any(|(&length, size)| length > size);
+    let sum: u128 = case.lengths.iter().map(|&length| length as u128).sum();
+    case.bios.len() > BIOS_SIZE
+        || case.rom.len() > ROM_WINDOW_SIZE
+        || over
+        || sum != case.store.len() as u128
+}
+
+// ---- the machine: the Rust's bus, and its WAITCNT, which the bus doesn't hold ----
+
+struct Machine {
+    bus: Bus,
+    waitcnt: WaitCnt,
+}
+
+impl Machine {
+    /// From the bytes of an accepted case.
+    fn new(case: &Case) -> Machine {
+        let board = Board::of(&case.board);
+        let waitcnt = WaitCnt::from_u16(board.waitcnt);
+        let mut rest: &[u8] = &case.store;
+        let mut memories = case.lengths.iter().map(|&length| {
+            let (part, after) = rest.split_at(length);
+            rest = after;
+            part.to_vec()
+        });
+        let mut memory = || memories.next().unwrap();
+        let bus = Bus {
+            ewram: memory(),
+            iwram: memory(),
+            io: memory(),
+            palette: memory(),
+            vram: memory(),
+            oam: memory(),
+            sram: memory(),
+            bios: case.bios.clone(),
+            rom: case.rom.clone(),
+            open_bus: OpenBusState { last_bios_opcode: board.latch },
+            cpu_pc: board.pc,
+            prefetch: prefetch_of(&board),
+            wait_tables: waitcnt.to_tables(),
+            force_next_fetch_n: board.force == 1,
+            vram_write_count: board.vram,
+            oam_write_count: board.oam,
+            palette_write_count: board.palette,
+        };
+        Machine { bus, waitcnt }
+    }
+
+    fn board(&self) -> Board {
+        let p = self.bus.prefetch.parts();
+        assert_eq!(p.enabled, self.waitcnt.prefetch_enable());
+        assert_eq!(self.bus.wait_tables, self.waitcnt.to_tables());
+        Board {
+            waitcnt: self.waitcnt.raw(),
+            force: u8::from(self.bus.force_next_fetch_n),
+            head: p.head as u8,
+            count: p.count as u8,
+            filling: u8::from(p.filling),
+            first_beat: u8::from(p.first_beat),
+            zero_7: 0,
+            wait_left: p.wait_left,
+            next: p.next_addr,
+            head_addr: p.head_addr,
+            halfwords: p.buf,
+            pc: self.bus.cpu_pc,
+            latch: self.bus.open_bus.last_bios_opcode,
+            vram: self.bus.vram_write_count,
+            oam: self.bus.oam_write_count,
+            palette: self.bus.palette_write_count,
+            zero_68: 0,
+        }
+    }
+
+    fn store(&self) -> Vec<u8> {
+        let b = &self.bus;
+        [&b.ewram[..], &b.iwram, &b.io, &b.palette, &b.vram, &b.oam, &b.sram].concat()
+    }
+
+    // ---- one step ----
+
+    fn step(&mut self, r: &Record) -> Answer {
+        let (mut value, mut cycles, mut hits) = (0, 0, 0);
+        match r.kind {
+            READ => {
+                value = self.read(r.size, r.address);
+                cycles = self.data_price(r.size, r.address);
+            }
+            WRITE => {
+                self.write(r.size, r.address, r.value);
+                cycles = self.data_price(r.size, r.address);
+            }
+            WAITCNT => {
+                self.waitcnt.write(r.value as u16);
+                self.bus.apply_waitcnt(self.waitcnt);
+            }
+            IDLE => {
+                self.tick_idle(r.value);
+                cycles = r.value;
+            }
+            FETCH => {
+                if let Some(halfword) = self.bus.prefetch.try_fetch_half(r.address) {
+                    value = u32::from(halfword);
+                    hits = 1;
+                }
+            }
+            RESTART => self.bus.prefetch.restart(r.address, self.bus.wait_tables),
+            INSTRUCTION => (value, cycles, hits) = self.instruction(r),
+            PC => self.bus.cpu_pc = r.address,
+            LATCH => self.bus.open_bus.last_bios_opcode = r.value,
+            kind => unreachable!("kind {kind} in an accepted sheet"),
+        }
+        Answer {
+            value,
+            cycles,
+            hits,
+            count: self.bus.prefetch.len() as u8,
+            force: u8::from(self.bus.force_next_fetch_n),
+        }
+    }
+
+    fn read(&mut self, size: u8, address: u32) -> u32 {
+        match size {
+            1 => u32::from(self.bus.read8(address)),
+            2 => u32::from(self.bus.read16(address)),
+            _ => self.bus.read32(address),
+        }
+    }
+
+    fn write(&mut self, size: u8, address: u32, value: u32) {
+        match size {
+            1 => self.bus.write8(address, value as u8),
+            2 => self.bus.write16(address, value as u16),
+            _ => self.bus.write32(address, value),
+        }
+    }
+
+    /// `tick_idle`, its reader being the bus's halfword read.
+    fn tick_idle(&mut self, cycles: u32) {
+        let mut prefetch = std::mem::take(&mut self.bus.prefetch);
+        let tables = self.bus.wait_tables;
+        prefetch.tick_idle(cycles, tables, |address| self.bus.read16(address));
+        self.bus.prefetch = prefetch;
+    }
+
+    /// Kind 7: (`cart_idle`, cycles, hits).
+    fn instruction(&mut self, r: &Record) -> (u32, u32, u8) {
+        let (isa, halves, opcode) = match r.size {
+            2 => (IsaState::Thumb, 1, r.value & 0xFFFF),
+            _ => (IsaState::Arm, 2, r.value),
+        };
+        let input = TimingInput {
+            isa,
+            code_addr: r.address,
+            opcode_raw: opcode,
+            pc_changed: r.flag == 1,
+            prefetch_enabled: self.waitcnt.prefetch_enable(),
+            force_fetch_n: self.bus.force_next_fetch_n,
+        };
+        let price = price_insn(input, self.bus.wait_tables, &self.bus.prefetch);
+        let hits = match RomWindow::from_addr(r.address) {
+            Some(_) => self.fetch_code(r.address, halves),
+            None => 0,
+        };
+        self.tick_idle(price.cart_idle);
+        self.bus.force_next_fetch_n = price.latch_disable_bug;
+        (price.cart_idle, price.total, hits)
+    }
+
+    /// `try_fetch_half` for each halfword; on any miss `restart` after the last one. The hits.
+    fn fetch_code(&mut self, address: u32, halves: u32) -> u8 {
+        let mut hits = 0;
+        for i in 0..halves {
+            if self.bus.prefetch.try_fetch_half(address.wrapping_add(2 * i)).is_some() {
+                hits += 1;
+            }
+        }
+        if u32::from(hits) < halves {
+            let after = address.wrapping_add(2 * halves);
+            self.bus.prefetch.restart(after, self.bus.wait_tables);
+        }
+        hits
+    }
+
+    /// Document 01's data price: by the region of the address, every access nonsequential.
+    fn data_price(&self, size: u8, address: u32) -> u32 {
+        let tables = self.bus.wait_tables;
+        if let Some(window) = RomWindow::from_addr(address) {
+            return match size {
+                4 => tables.rom_word_cycles(window, AccessKind::Nonseq),
+                _ => tables.rom_half_cycles(window, AccessKind::Nonseq),
+            };
+        }
+        let size = match size {
+            1 => AccessSize::Byte,
+            2 => AccessSize::Half,
+            _ => AccessSize::Word,
+        };
+        match decode(address) {
+            Region::Ewram => tables.ewram_cycles(size),
+            Region::Palette | Region::Vram => WaitTables::video_ram_cycles(size),
+            Region::GamePakSram => tables.sram_byte_cycles(),
+            _ => WaitTables::fixed_fast_cycles(size),
+        }
+    }
+}
+
+fn prefetch_of(b: &Board) -> PrefetchBuffer {
+    PrefetchBuffer::from_parts(PrefetchParts {
+        enabled: b.prefetch_on(),
+        buf: b.halfwords,
+        head: usize::from(b.head),
+        count: usize::from(b.count),
+        next_addr: b.next,
+        wait_left: b.wait_left,
+        filling: b.filling == 1,
+        head_addr: b.head_addr,
+        first_beat: b.first_beat == 1,
+    })
+}

@@ -1,0 +1,299 @@
+//! Compares `bts_run` of libbts.a with document 01's run done by the Rust, byte for byte.
+//! See README.md for what is compared and how to run it.
+
+mod boards;
+mod bytes;
+mod compare;
+mod demand3;
+mod differences;
+mod figures;
+mod gen;
+mod machine;
+mod notation;
+mod refusals;
+mod sample;
+mod steps;
+mod sweeps;
+
+use bytes::*;
+use compare::Library;
+use gen::{Plan, Rng};
+use std::time::{Duration, Instant};
+
+/// After so many differences the comparison gives up.
+const MOST_DIFFERENCES: u64 = 20;
+
+/// What was compared so far.
+#[derive(Default)]
+struct Tally {
+    library: Library,
+    cases: u64,
+    steps: u64,
+    refused: u64,
+    pairs: u64,
+    differences: u64,
+    /// Figures and values in words that were held against what the runs gave.
+    claims: usize,
+    /// Only this case is run, and told in full.
+    only: Option<String>,
+    /// Each case is named before it is run, to find one that ends the program.
+    names: bool,
+}
+
+impl Tally {
+    fn wants(&self, name: &str) -> bool {
+        self.only.as_ref().is_none_or(|only| only == name)
+    }
+
+    fn full(&self) -> bool {
+        self.differences >= MOST_DIFFERENCES
+    }
+
+    fn differ(&mut self, name: &str, what: &str) {
+        self.differences += 1;
+        println!("DIFFERENCE in case {name}: {what}");
+    }
+
+    /// Runs the case on both sides and compares; what both gave, if they agree.
+    fn case(&mut self, name: &str, case: &Case, meant: Option<u32>) -> Option<Outcome> {
+        if self.names {
+            println!("case {name}");
+        }
+        let _told = ToldOnPanic(name);
+        let rust = machine::run(case);
+        self.cases += 1;
+        match rust.report.number {
+            0 => self.steps += u64::from(rust.report.index),
+            _ => self.refused += 1,
+        }
+        self.check_rust(name, &rust, meant);
+        let library = match self.library.run(case) {
+            Ok(outcome) => outcome,
+            Err(what) => {
+                self.differ(name, &what);
+                return None;
+            }
+        };
+        if self.only.is_some() {
+            compare::tell(case, &rust, &library);
+        }
+        let difference = compare::first_difference(case, &rust, &library);
+        if let Some(what) = difference.or_else(|| demand3::past_limits(case, &library)) {
+            self.differ(name, &what);
+            return None;
+        }
+        Some(library)
+    }
+
+    /// The Rust side against what is known beforehand: the refusal that was made, and a sound board kept.
+    fn check_rust(&mut self, name: &str, rust: &Outcome, meant: Option<u32>) {
+        let number = rust.report.number;
+        if meant.is_some_and(|meant| meant != number) {
+            self.differ(name, &format!("the Rust side gives number {number}, made for {meant:?}"));
+        }
+        if number == 0 && !Board::of(&rust.board).sound() {
+            self.differ(name, "the Rust side leaves a board that isn't sound");
+        }
+    }
+
+    fn plan(&mut self, name: &str, plan: &Plan, case: impl FnOnce() -> Case) {
+        if self.wants(name) {
+            self.case(name, &case(), plan.meant);
+        }
+    }
+
+    // ---- the parts ----
+
+    fn figures(&mut self) {
+        for (i, (input, claims)) in figures::FIGURES.iter().enumerate() {
+            self.line(&format!("figure:{i}"), input, claims);
+        }
+    }
+
+    fn differences_file(&mut self, path: &str) {
+        let text = std::fs::read_to_string(path).map_err(|e| e.to_string());
+        match text.and_then(|text| differences::lines_of(&text)) {
+            Err(what) => self.differ(path, &what),
+            Ok(lines) => lines.iter().for_each(|l| self.line(&l.name, &l.input, &l.claims)),
+        }
+    }
+
+    /// An input in words: both sides must agree, and give what is claimed.
+    fn line(&mut self, name: &str, input: &str, claims: &str) {
+        if self.full() || !self.wants(name) {
+            return;
+        }
+        let result = notation::case_of(input).and_then(|case| {
+            let Some(library) = self.case(name, &case, Some(0)) else { return Ok(0) };
+            // the two agree, so that one of them stands for both
+            notation::check(claims, &case, &library)
+        });
+        match result {
+            Ok(held) => self.claims += held,
+            Err(what) => self.differ(name, &format!("{what} ({input} → {claims})")),
+        }
+    }
+
+    fn sweeps(&mut self) {
+        let mut i = 0;
+        sweeps::for_each(&mut |plan| {
+            if !self.full() {
+                self.plan(&format!("sweep:{i}"), &plan, || plan.random_case(&mut Rng::new(i)));
+            }
+            i += 1;
+        });
+    }
+
+    fn sample(&mut self) {
+        let plans = sample::plans();
+        for (i, plan) in plans.iter().enumerate() {
+            if !self.full() {
+                self.plan(&format!("sample:{i}"), plan, || sample::case_at(&plans, i));
+            }
+        }
+    }
+
+    fn random(&mut self, seed: u64) {
+        let (plan, case) = gen::random(seed);
+        self.case(&format!("random:{seed}"), &case, plan.meant);
+    }
+
+    /// Demand 3 on two runs.
+    fn pair(&mut self, seed: u64) {
+        let name = format!("pair:{seed}");
+        let (first, second) = gen::pair(seed);
+        let a = self.case(&name, &first, Some(0));
+        let b = self.case(&name, &second, Some(0));
+        self.pairs += 1;
+        let (Some(a), Some(b)) = (a, b) else { return };
+        if let Some(what) = demand3::pair_difference(&first, &a, &b) {
+            self.differ(&name, &what);
+        }
+    }
+
+    fn last_line(&self) -> String {
+        let Tally { cases, steps, refused, pairs, differences, .. } = self;
+        format!("cases {cases}, steps {steps}, refused {refused}, pairs {pairs}: {differences} differences")
+    }
+}
+
+/// Names the case if something panics in it, as the Rust's own overflow checks would.
+struct ToldOnPanic<'a>(&'a str);
+
+impl Drop for ToldOnPanic<'_> {
+    fn drop(&mut self) {
+        if std::thread::panicking() {
+            println!("stopped in case {}", self.0);
+        }
+    }
+}
+
+// ---- the program ----
+
+enum Order {
+    /// All parts, the random one for so many seconds from seed 1.
+    Compare(u64),
+    /// The random part alone: seconds, first seed.
+    Random(u64, u64),
+    OneCase(String),
+    Record(String),
+}
+
+const USAGE: &str = "usage: run [--names] [SECONDS] | SECONDS --from SEED | --case NAME | --record FILE
+--names: name each case before it is run
+SECONDS: for the random part, 100 if not given
+--from: the random part alone, from this seed on
+NAME: random:SEED (or SEED alone), pair:SEED, sweep:N, sample:N, figure:N, D-N.K";
+
+fn order(words: &[String]) -> Option<Order> {
+    let words: Vec<&str> = words.iter().map(String::as_str).collect();
+    Some(match words[..] {
+        ["--case", name] if name.parse::<u64>().is_ok() => Order::OneCase(format!("random:{name}")),
+        ["--case", name] => Order::OneCase(name.to_string()),
+        ["--record", file] => Order::Record(file.to_string()),
+        [] => Order::Compare(100),
+        [seconds] => Order::Compare(seconds.parse().ok()?),
+        [seconds, "--from", seed] => Order::Random(seconds.parse().ok()?, seed.parse().ok()?),
+        _ => return None,
+    })
+}
+
+fn main() {
+    let mut words: Vec<String> = std::env::args().skip(1).collect();
+    let names = words.first().is_some_and(|word| word == "--names");
+    if names {
+        words.remove(0);
+    }
+    let Some(order) = order(&words) else {
+        eprintln!("{USAGE}");
+        std::process::exit(2);
+    };
+    let mut tally = Tally { names, ..Tally::default() };
+    match order {
+        Order::Compare(seconds) => compare_all(&mut tally, seconds),
+        Order::Random(seconds, from) => random_part(&mut tally, seconds, from),
+        Order::OneCase(name) => one_case(&mut tally, &name),
+        Order::Record(file) => record(&mut tally, &file),
+    }
+    println!("{}", tally.last_line());
+    std::process::exit(i32::from(tally.differences > 0 || tally.cases == 0));
+}
+
+const DIFFERENCES: &str = "docs/DIFFERENCES.md";
+
+fn compare_all(tally: &mut Tally, seconds: u64) {
+    tally.figures();
+    told(tally, &format!("the figures ({} values)", tally.claims));
+    tally.claims = 0;
+    tally.differences_file(DIFFERENCES);
+    told(tally, &format!("{DIFFERENCES} ({} values)", tally.claims));
+    tally.sample();
+    told(tally, "the sample");
+    tally.sweeps();
+    told(tally, "sweeps");
+    random_part(tally, seconds, 1);
+}
+
+/// One case in sixteen is a pair.
+fn random_part(tally: &mut Tally, seconds: u64, from: u64) {
+    let end = Instant::now() + Duration::from_secs(seconds);
+    let mut seed = from;
+    while !tally.full() && Instant::now() < end {
+        if seed % 16 == 0 {
+            tally.pair(seed);
+        } else {
+            tally.random(seed);
+        }
+        seed += 1;
+    }
+    told(tally, &format!("random cases and pairs, seeds {from} to {}", seed - 1));
+}
+
+fn told(tally: &Tally, part: &str) {
+    println!("after {part}: {}", tally.last_line());
+}
+
+fn one_case(tally: &mut Tally, name: &str) {
+    tally.only = Some(name.to_string());
+    match name.split_once(':') {
+        Some(("random", seed)) => tally.random(seed.parse().expect("a seed")),
+        Some(("pair", seed)) => tally.pair(seed.parse().expect("a seed")),
+        Some(("sweep", _)) => tally.sweeps(),
+        Some(("sample", _)) => tally.sample(),
+        Some(("figure", _)) => tally.figures(),
+        _ => tally.differences_file(DIFFERENCES),
+    }
+}
+
+/// Writes the sample with the Rust's answers; the library is held against them as well.
+fn record(tally: &mut Tally, file: &str) {
+    tally.sample();
+    let plans = sample::plans();
+    let mut out = (plans.len() as u32).to_le_bytes().to_vec();
+    for i in 0..plans.len() {
+        let case = sample::case_at(&plans, i);
+        out.extend(sample::encode(&case, i as u32, &machine::run(&case)));
+    }
+    std::fs::write(file, &out).unwrap_or_else(|e| panic!("{file}: {e}"));
+    println!("{file}: {} cases, {} bytes; at most {:?} lent", plans.len(), out.len(), sample::MOST);
+}

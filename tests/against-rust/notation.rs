@@ -1,0 +1,247 @@
+//! The notation of docs/DIFFERENCES.md: an input in words, and what is claimed of it.
+
+use crate::bytes::*;
+use crate::compare::NAMES;
+use crate::machine::{BIOS_SIZE, ROM_WINDOW_SIZE, SIZES};
+
+// ---- inputs ----
+
+/// The case that a list of items describes, from a fresh board over the memories of `bench`.
+pub fn case_of(text: &str) -> Result<Case, String> {
+    let mut setting = Setting::bench();
+    for item in text.split(", ") {
+        let words: Vec<&str> = item.split_whitespace().collect();
+        setting.item(&words).ok_or(format!("can't read the item \"{item}\""))?;
+    }
+    Ok(setting.case())
+}
+
+struct Setting {
+    memories: [Vec<u8>; 7],
+    bios: Vec<u8>,
+    rom: Vec<u8>,
+    board: Board,
+    records: Vec<Record>,
+}
+
+impl Setting {
+    fn bench() -> Setting {
+        let lengths = [16_384, 16_384, 2_052, 1_024, 16_384, 1_024, 8_192];
+        Setting {
+            memories: lengths.map(|length| vec![0; length]),
+            bios: Vec::new(),
+            rom: Vec::new(),
+            board: Board::default(),
+            records: Vec::new(),
+        }
+    }
+
+    fn case(self) -> Case {
+        Case {
+            sheet: sheet_of(&self.records),
+            board: self.board.bytes(),
+            lengths: std::array::from_fn(|i| self.memories[i].len()),
+            store: self.memories.concat(),
+            bios: self.bios,
+            rom: self.rom,
+            answers: vec![0x3C; ANSWER * self.records.len()],
+        }
+    }
+
+    /// A memory by its name, and its size.
+    fn memory(&mut self, name: &str) -> Option<(&mut Vec<u8>, usize)> {
+        match name {
+            "BIOS" => Some((&mut self.bios, BIOS_SIZE)),
+            "ROM" => Some((&mut self.rom, ROM_WINDOW_SIZE)),
+            _ => {
+                let i = NAMES.iter().position(|n| *n == name)?;
+                Some((&mut self.memories[i], SIZES[i]))
+            }
+        }
+    }
+
+    fn item(&mut self, words: &[&str]) -> Option<()> {
+        match words {
+            [times, "×", step @ ..] => {
+                for _ in 0..number(times)? {
+                    self.item(step)?;
+                }
+            }
+            ["no", name] => self.memory(name)?.0.clear(),
+            [name, "of", "bytes", bytes @ ..] => {
+                let bytes: Option<Vec<u8>> = bytes.iter().map(|b| u8::from_str_radix(b, 16).ok()).collect();
+                self.lend(name, bytes?)?;
+            }
+            [name, "of", length, "byte" | "bytes"] => self.lend(name, vec![0; number(length)? as usize])?,
+            ["board", "WAITCNT", value] => self.board.waitcnt = number(value)?.try_into().ok()?,
+            ["board", "VRAM", "counter", value] => self.board.vram = number(value)?,
+            _ => self.records.push(step(words)?),
+        }
+        Some(())
+    }
+
+    fn lend(&mut self, name: &str, bytes: Vec<u8>) -> Option<()> {
+        let (memory, size) = self.memory(name)?;
+        if bytes.len() > size {
+            return None;
+        }
+        *memory = bytes;
+        Some(())
+    }
+}
+
+fn step(words: &[&str]) -> Option<Record> {
+    Some(match words {
+        ["READ", size, "at", address] => Record::new(READ, word(size)? as u8, word(address)?, 0),
+        ["WRITE", size, "of", value, "at", address] => {
+            Record::new(WRITE, word(size)? as u8, word(address)?, word(value)?)
+        }
+        ["WAITCNT", value] => Record::new(WAITCNT, 0, 0, word(value)?),
+        ["IDLE", cycles] => Record::new(IDLE, 0, 0, word(cycles)?),
+        ["FETCH", address] => Record::new(FETCH, 0, word(address)?, 0),
+        ["RESTART", address] => Record::new(RESTART, 0, word(address)?, 0),
+        ["PC", address] => Record::new(PC, 0, word(address)?, 0),
+        ["LATCH", value] => Record::new(LATCH, 0, 0, word(value)?),
+        [isa @ ("ARM" | "Thumb"), opcode, "at", address, rest @ ..] => {
+            let size = if *isa == "ARM" { 4 } else { 2 };
+            let flag = match rest {
+                [] | ["with", "flag", "0"] => 0,
+                ["with", "flag", "1"] => 1,
+                _ => return None,
+            };
+            Record { flag, ..Record::new(INSTRUCTION, size, word(address)?, word(opcode)?) }
+        }
+        _ => return None,
+    })
+}
+
+/// Base ten, with or without commas between thousands, or hexadecimal after 0x.
+fn number(text: &str) -> Option<u64> {
+    match text.strip_prefix("0x") {
+        Some(digits) => u64::from_str_radix(digits, 16).ok(),
+        None => text.replace(',', "").parse().ok(),
+    }
+}
+
+fn word(text: &str) -> Option<u32> {
+    number(text)?.try_into().ok()
+}
+
+// ---- claims ----
+
+/// Holds each claim against what a run gave; the number of claims. What stands in brackets is no claim.
+pub fn check(claims: &str, case: &Case, outcome: &Outcome) -> Result<usize, String> {
+    if outcome.report.number != 0 {
+        return Err(format!("refused: {:?}", outcome.report));
+    }
+    let plain = without_brackets(claims);
+    let mut rest: Vec<&str> = plain.split_whitespace().map(|w| w.trim_end_matches(',')).collect();
+    let mut done = 0;
+    while !rest.is_empty() {
+        let (claim, used) =
+            Claim::first(&rest).ok_or(format!("can't read the claim \"{}\"", rest.join(" ")))?;
+        claim.hold(case, outcome)?;
+        rest.drain(..used);
+        done += 1;
+    }
+    if done == 0 {
+        return Err("no claim".to_string());
+    }
+    Ok(done)
+}
+
+fn without_brackets(text: &str) -> String {
+    let mut depth = 0;
+    let mut out = String::new();
+    for c in text.chars() {
+        match c {
+            '(' => depth += 1,
+            ')' => depth -= 1,
+            _ if depth == 0 => out.push(c),
+            _ => {}
+        }
+    }
+    out
+}
+
+enum Claim {
+    Waitcnt(u64),
+    Counter(u64),
+    Value(u64),
+    Hits(u64),
+    Count(u64),
+    Flag(u64),
+    /// Those of the last steps.
+    Cycles(Vec<u64>),
+    Total(u64),
+    /// A memory's byte after the run.
+    Byte(usize, u64, u64),
+    /// How many bytes of the store the run changed.
+    Changed(u64),
+}
+
+impl Claim {
+    /// The claim that the words begin with, and how many words it takes.
+    fn first(words: &[&str]) -> Option<(Claim, usize)> {
+        Some(match words {
+            ["board", "WAITCNT", v, ..] => (Claim::Waitcnt(number(v)?), 3),
+            ["VRAM", "counter", v, ..] => (Claim::Counter(number(v)?), 3),
+            ["value", v, ..] => (Claim::Value(number(v)?), 2),
+            ["hits", v, ..] => (Claim::Hits(number(v)?), 2),
+            ["count", v, ..] => (Claim::Count(number(v)?), 2),
+            ["flag", v, ..] => (Claim::Flag(number(v)?), 2),
+            ["total", v, ..] => (Claim::Total(number(v)?), 2),
+            ["changed", v, ..] => (Claim::Changed(number(v)?), 2),
+            ["cycles", list @ ..] => {
+                let cycles: Vec<u64> = list.iter().map_while(|w| number(w)).collect();
+                let used = 1 + cycles.len();
+                if used == 1 {
+                    return None;
+                }
+                (Claim::Cycles(cycles), used)
+            }
+            [v, "cycle" | "cycles", ..] => (Claim::Cycles(vec![number(v)?]), 2),
+            [memory, "byte", at, v, ..] => {
+                let which = NAMES.iter().position(|n| n == memory)?;
+                (Claim::Byte(which, number(at)?, number(v)?), 4)
+            }
+            _ => return None,
+        })
+    }
+
+    fn hold(&self, case: &Case, outcome: &Outcome) -> Result<(), String> {
+        let answers: Vec<Answer> = outcome.answers.chunks_exact(ANSWER).map(Answer::of).collect();
+        let last = *answers.last().ok_or("no step")?;
+        let board = Board::of(&outcome.board);
+        match self {
+            Claim::Waitcnt(v) => same("board WAITCNT", *v, board.waitcnt.into()),
+            Claim::Counter(v) => same("VRAM counter", *v, board.vram),
+            Claim::Value(v) => same("value", *v, last.value.into()),
+            Claim::Hits(v) => same("hits", *v, last.hits.into()),
+            Claim::Count(v) => same("count", *v, last.count.into()),
+            Claim::Flag(v) => same("flag", *v, last.force.into()),
+            Claim::Total(v) => same("total", *v, outcome.report.total),
+            Claim::Cycles(list) => {
+                let skipped = answers.len().checked_sub(list.len()).ok_or("more cycles than steps")?;
+                let mut steps = list.iter().zip(&answers[skipped..]);
+                steps.try_for_each(|(v, a)| same("cycles", *v, a.cycles.into()))
+            }
+            Claim::Byte(which, at, v) => {
+                let start: usize = case.lengths[..*which].iter().sum();
+                let byte = outcome.store[start + *at as usize];
+                same(&format!("{} byte {at}", NAMES[*which]), *v, byte.into())
+            }
+            Claim::Changed(v) => {
+                let changed = case.store.iter().zip(&outcome.store).filter(|(a, b)| a != b).count();
+                same("changed bytes", *v, changed as u64)
+            }
+        }
+    }
+}
+
+fn same(what: &str, claimed: u64, given: u64) -> Result<(), String> {
+    if claimed == given {
+        return Ok(());
+    }
+    Err(format!("{what}: {claimed} ({claimed:#X}) is claimed, {given} ({given:#X}) was given"))
+}

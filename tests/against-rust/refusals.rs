@@ -1,0 +1,182 @@
+//! Cases that a run must refuse: each of the seven conditions alone, several at once, random damage.
+
+use crate::boards;
+use crate::bytes::*;
+use crate::gen::{self, Plan, Rng};
+use crate::machine::{BIOS_SIZE, ROM_WINDOW_SIZE, SIZES};
+
+pub fn one(rng: &mut Rng) -> Plan {
+    let number = 1 + rng.below(7) as u32;
+    with(rng, &[number])
+}
+
+/// Two conditions or more: the first in the table's order decides.
+pub fn several(rng: &mut Rng) -> Plan {
+    let set = 1 + rng.below(127);
+    let numbers: Vec<u32> = (1..=7).filter(|k| set >> (k - 1) & 1 == 1).collect();
+    with(rng, &numbers)
+}
+
+/// An accepted plan with these conditions made true (given in rising order).
+pub fn with(rng: &mut Rng, numbers: &[u32]) -> Plan {
+    let mut plan = gen::accepted(rng, 1);
+    while plan.sheet.len() == HEADER {
+        plan = gen::accepted(rng, 1); // 6 and 7 need a record
+    }
+    // from the last to the first, since damage to the header hides where the records are
+    for &number in numbers.iter().rev() {
+        match number {
+            1 => no_sheet(rng, &mut plan),
+            2 => other_version(rng, &mut plan),
+            3 => header_wrong(rng, &mut plan),
+            4 => lengths_wrong(rng, &mut plan),
+            5 => board_wrong(rng, &mut plan),
+            6 => answers_short(rng, &mut plan),
+            _ => record_faulty(rng, &mut plan),
+        }
+    }
+    plan.meant = numbers.first().copied();
+    plan
+}
+
+fn no_sheet(rng: &mut Rng, plan: &mut Plan) {
+    if rng.percent(50) {
+        plan.sheet.truncate(rng.below(HEADER));
+    } else {
+        let at = rng.below(3);
+        plan.sheet[at] ^= 1 << rng.below(8);
+    }
+}
+
+fn other_version(rng: &mut Rng, plan: &mut Plan) {
+    let version: u16 = rng.pick(&[0, 2, 3, 0x0100, 0x0101, 0x8001, 0xFFFF]);
+    plan.sheet[3..5].copy_from_slice(&version.to_le_bytes());
+}
+
+fn header_wrong(rng: &mut Rng, plan: &mut Plan) {
+    let n = record_count(&plan.sheet);
+    match rng.below(7) {
+        0 => plan.sheet[5] = 1 + rng.below(255) as u8,
+        1 => set_count(plan, n + 1),
+        2 => set_count(plan, n - 1),
+        3 => set_count(plan, rng.pick(&[4097, 4098, 32_768, 65_535])),
+        4 => plan.sheet.push(0),
+        5 => {
+            plan.sheet.pop();
+        }
+        _ => too_many(rng, plan),
+    }
+}
+
+fn set_count(plan: &mut Plan, n: usize) {
+    plan.sheet[6..8].copy_from_slice(&(n as u16).to_le_bytes());
+}
+
+/// 4,097 records or a few more, with all their bytes.
+fn too_many(rng: &mut Rng, plan: &mut Plan) {
+    let n = MOST_RECORDS + 1 + rng.below(3);
+    let record = Record::new(IDLE, 0, 0, 1).bytes();
+    while plan.sheet.len() < HEADER + RECORD * n {
+        plan.sheet.extend(record);
+    }
+    set_count(plan, n);
+    plan.answers_len = ANSWER * n;
+}
+
+/// A length over its size, with a store to match or not; a sum that is off by one or that wraps.
+fn lengths_wrong(rng: &mut Rng, plan: &mut Plan) {
+    let which = rng.below(7);
+    match rng.below(8) {
+        0 => plan.bios_len = BIOS_SIZE + 1,
+        1 if rng.percent(4) => plan.rom_len = ROM_WINDOW_SIZE + 1,
+        1 | 2 => {
+            plan.store_len = plan.store_len - plan.lengths[which] + SIZES[which] + 1;
+            plan.lengths[which] = SIZES[which] + 1;
+        }
+        3 => plan.lengths[which] = SIZES[which] + 1,
+        4 => plan.store_len += 1,
+        5 if plan.store_len > 0 => plan.store_len -= 1,
+        6 => {
+            // the store's length again, modulo 2^64
+            let other = (which + 1 + rng.below(6)) % 7;
+            let by = rng.pick(&[1 << 63, usize::MAX, 1 << 32, usize::MAX - 65_535]);
+            plan.lengths[which] = plan.lengths[which].wrapping_add(by);
+            plan.lengths[other] = plan.lengths[other].wrapping_sub(by);
+            if plan.lengths[which] <= SIZES[which] && plan.lengths[other] <= SIZES[other] {
+                plan.lengths[which] = usize::MAX; // the shift met another valid split
+            }
+        }
+        _ => plan.lengths[which] = rng.pick(&[usize::MAX, 1 << 63, 1 << 32, (1 << 32) + 1]),
+    }
+}
+
+fn board_wrong(rng: &mut Rng, plan: &mut Plan) {
+    if rng.percent(25) {
+        plan.board.resize(rng.pick(&[0, 1, 36, 68, 71, 73, 76, 80, 144]), 0);
+    } else {
+        plan.board = boards::unsound(rng).bytes();
+    }
+}
+
+fn answers_short(rng: &mut Rng, plan: &mut Plan) {
+    let need = ANSWER * record_count(&plan.sheet);
+    plan.answers_len = match rng.below(4) {
+        0 => 0,
+        1 => need - ANSWER,
+        2 => rng.below(need),
+        _ => need - 1,
+    };
+}
+
+/// One record that breaks the layout, or several.
+fn record_faulty(rng: &mut Rng, plan: &mut Plan) {
+    let n = record_count(&plan.sheet);
+    for _ in 0..rng.pick(&[1, 1, 2, 3]) {
+        let at = HEADER + RECORD * rng.below(n);
+        let faulty = faulty_record(rng, Record::of(&plan.sheet[at..]));
+        plan.sheet[at..at + RECORD].copy_from_slice(&faulty.bytes());
+    }
+}
+
+/// The record with one field wrong.
+fn faulty_record(rng: &mut Rng, r: Record) -> Record {
+    let r = match rng.below(8) {
+        0 => Record { kind: rng.pick(&[0, 10, 11, 99, 255]), ..r },
+        1 => Record { size: rng.pick(&[3, 5, 8, 255]), ..r },
+        2 if matches!(r.kind, READ | WRITE | INSTRUCTION) => Record { size: 0, ..r },
+        2 => Record { size: rng.pick(&[1, 2, 4]), ..r },
+        3 => Record { flag: if r.kind == INSTRUCTION { 2 } else { 1 }, ..r },
+        4 => Record { flag: 2 + rng.below(254) as u8, ..r },
+        5 => Record { zero: 1 << rng.below(8), ..r },
+        6 if matches!(r.kind, WAITCNT | IDLE | LATCH) => Record { address: 1 << rng.below(32), ..r },
+        6 | 7 => match r.kind {
+            READ | FETCH | RESTART | PC => Record { value: 1 << rng.below(32), ..r },
+            WAITCNT => Record { value: r.value | 0x1_0000 << rng.below(16), ..r },
+            _ => Record { kind: 0, ..r },
+        },
+        _ => unreachable!(),
+    };
+    assert!(r.faulty());
+    r
+}
+
+/// A good case with a few random bytes of its sheet or its board changed; it may still be accepted.
+pub fn damaged(rng: &mut Rng) -> Plan {
+    let mut plan = gen::accepted(rng, 1);
+    plan.meant = None;
+    for _ in 0..1 + rng.below(3) {
+        let bytes = match rng.below(10) {
+            0..=5 => &mut plan.sheet,
+            _ => &mut plan.board,
+        };
+        let at = if rng.percent(30) { rng.below(20) } else { rng.below(bytes.len()) };
+        if let Some(byte) = bytes.get_mut(at) {
+            *byte = if rng.percent(50) { *byte ^ 1 << rng.below(8) } else { rng.u32() as u8 };
+        }
+    }
+    if rng.percent(5) {
+        let cut = rng.below(plan.sheet.len() + 1);
+        plan.sheet.truncate(cut);
+    }
+    plan
+}

@@ -1,0 +1,255 @@
+//! A fixed sample of cases with the Rust's answers, for a program that has no Rust at hand.
+//! Contents before a run follow from a fill seed by a rule (`gen::rule_byte`), so the file stays small.
+
+use crate::boards::{self, CODE_EDGES};
+use crate::bytes::*;
+use crate::figures::FIGURES;
+use crate::gen::{Memories, Plan, Rng};
+use crate::machine::{BIOS_SIZE, SIZES};
+use crate::notation;
+use crate::refusals;
+use crate::steps::Steps;
+use crate::sweeps::{edge_plan, fill, one_of_each};
+
+/// The most that a case of the sample lends, so that a replaying program can have fixed buffers:
+/// sheet, board, store, BIOS, ROM, answers.
+pub const MOST: [usize; 6] = [
+    HEADER + RECORD * (MOST_RECORDS + 1),
+    144,
+    462_852 + 1,
+    BIOS_SIZE + 1,
+    0x20040,
+    ANSWER * (MOST_RECORDS + 1),
+];
+
+/// The cases of the sample in order; a case's place is its fill seed.
+pub fn plans() -> Vec<Plan> {
+    let mut plans = Vec::new();
+    figures(&mut plans);
+    lists(&mut plans);
+    single_boards(&mut plans);
+    window_edges(&mut plans);
+    fills(&mut plans);
+    refused(&mut plans);
+    faulty_records(&mut plans);
+    list_lengths(&mut plans);
+    full_memories(&mut plans);
+    plans
+}
+
+/// The case at a place of the sample.
+pub fn case_at(plans: &[Plan], place: usize) -> Case {
+    plans[place].rule_case(place as u32)
+}
+
+fn few() -> Memories {
+    Memories { lengths: [40, 33, 8, 16, 24, 5, 7], bios: 32, rom: 0x140 }
+}
+
+fn prefetch_on() -> Board {
+    Board { waitcnt: 0x4000, ..Board::default() }
+}
+
+/// The lists of steps of document 01's figures, over filled memories.
+fn figures(plans: &mut Vec<Plan>) {
+    for (input, _) in FIGURES {
+        let case = notation::case_of(input).unwrap();
+        let memories = Memories { lengths: case.lengths, bios: case.bios.len(), rom: case.rom.len() };
+        plans.push(Plan::accepted(Board::of(&case.board), &memories, &records_of(&case.sheet)));
+    }
+}
+
+/// Random lists of steps over small memories: at any place, then along code.
+fn lists(plans: &mut Vec<Plan>) {
+    for seed in 0..120 {
+        let mut rng = Rng::new(seed);
+        let memories = Memories::random(&mut rng, 0);
+        let board = boards::any_sound(&mut rng);
+        let steps = Steps::new(&mut rng, &memories);
+        let records = if seed < 60 { steps.mixed(45) } else { steps.code_run(45, &board) };
+        let mut plan = Plan::accepted(board, &memories, &records);
+        plan.answers_len += rng.below(14);
+        plans.push(plan);
+    }
+}
+
+/// Sound boards, most of which no list of steps leads to, with few steps each and a store to each counter.
+fn single_boards(plans: &mut Vec<Plan>) {
+    for seed in 0..60 {
+        let mut rng = Rng::new(9000 + seed);
+        let board = match boards::unreached().get(seed as usize) {
+            Some(board) => *board,
+            None => boards::any_sound(&mut rng),
+        };
+        let memories = Memories::random(&mut rng, 0);
+        let mut records = vec![Record::new(IDLE, 0, 0, rng.below(12) as u32)];
+        records.extend(Steps::new(&mut rng, &memories).code_run(8, &board));
+        records.push(Record::new(WRITE, 4, 0x0600_0000, 0x1122_3344));
+        records.push(Record::new(WRITE, 2, 0x0700_0000, 0x5566));
+        records.push(Record::new(WRITE, 1, 0x0500_0001, 0x77));
+        plans.push(Plan::accepted(board, &memories, &records));
+    }
+}
+
+/// Fills that begin just below each window and block edge, with hits and misses.
+fn window_edges(plans: &mut Vec<Plan>) {
+    for (i, edge) in CODE_EDGES.into_iter().enumerate() {
+        let start = edge - 6 + i as u32 % 2;
+        let mut records = vec![Record::new(RESTART, 0, start, 0)];
+        for half in 0..6 {
+            records.extend([Record::new(IDLE, 0, 0, 3), Record::new(IDLE, 0, 0, 11)]);
+            records.push(Record::new(FETCH, 0, start + 2 * half, 0));
+        }
+        records.push(Record::new(INSTRUCTION, 4, start + 12, 0xE591_0000));
+        records.push(Record::new(IDLE, 0, 0, 100));
+        records.push(Record::new(INSTRUCTION, 2, start + 16, 0x6808));
+        let waitcnt = [0x4000, 0x4317, 0x4060, 0x5FFF][i % 4];
+        let memories = Memories { rom: 0x20040, ..few() };
+        plans.push(Plan::accepted(Board { waitcnt, ..Board::default() }, &memories, &records));
+    }
+}
+
+/// A fill stopped after each number of cycles.
+fn fills(plans: &mut Vec<Plan>) {
+    for cycles in 0..=30 {
+        plans.push(Plan::accepted(prefetch_on(), &few(), &fill(0x0800_0100, cycles)));
+    }
+}
+
+/// Each refusal alone, each two of them, unsound boards, boards of other lengths, random damage.
+fn refused(plans: &mut Vec<Plan>) {
+    for first in 1..=7 {
+        for turn in 0..5 {
+            plans.push(small_enough(100 * u64::from(first) + turn, |rng| refusals::with(rng, &[first])));
+        }
+        for second in first + 1..=7 {
+            let seed = u64::from(10 * first + second);
+            plans.push(small_enough(seed, |rng| refusals::with(rng, &[first, second])));
+        }
+    }
+    for way in 0..2 * boards::WAYS_TO_BREAK {
+        let board = boards::broken(&mut Rng::new(7000 + way as u64), way % boards::WAYS_TO_BREAK);
+        let mut plan = Plan::accepted(board, &few(), &one_of_each()[..3]);
+        plan.meant = Some(5);
+        plans.push(plan);
+    }
+    for length in [0, 71, 73, 80] {
+        let mut plan = Plan::accepted(prefetch_on(), &few(), &one_of_each()[..3]);
+        plan.board.resize(length, 0);
+        plan.meant = Some(5);
+        plans.push(plan);
+    }
+    for seed in 0..20 {
+        plans.push(small_enough(5000 + seed, refusals::damaged));
+    }
+}
+
+/// The first plan from this seed on that keeps to the sample's limits.
+fn small_enough(seed: u64, make: impl Fn(&mut Rng) -> Plan) -> Plan {
+    let fits = |plan: &Plan| {
+        plan.sheet.len() <= 1500
+            && plan.store_len <= 300_000
+            && plan.bios_len <= BIOS_SIZE + 1
+            && plan.rom_len <= 0x20040
+            && plan.answers_len <= 1500
+            && plan.lengths.iter().all(|&length| length < 1 << 32)
+    };
+    (0..).map(|turn| make(&mut Rng::new(seed + 1_000_000 * turn))).find(fits).unwrap()
+}
+
+/// Each kind with each of its fields one off, as the third record of five.
+fn faulty_records(plans: &mut Vec<Plan>) {
+    let each = one_of_each();
+    for kind in READ..=LATCH {
+        let good = *each.iter().find(|r| r.kind == kind).unwrap();
+        plans.push(third_record(Record { size: good.size + 3, ..good }));
+        plans.push(third_record(Record { flag: good.flag + 1, ..good }));
+        plans.push(third_record(Record { flag: 2, ..good }));
+        plans.push(third_record(Record { zero: 1, ..good }));
+        plans.push(third_record(Record { address: good.address ^ 0x0001_0000, ..good }));
+        plans.push(third_record(Record { value: good.value ^ 0x0001_0000, ..good }));
+    }
+    for kind in [0, 10, 11, 255] {
+        plans.push(third_record(Record { kind, ..each[0] }));
+    }
+}
+
+/// A fourth record is faulty too; the third is reported where it is.
+fn third_record(record: Record) -> Plan {
+    let each = one_of_each();
+    let mut records = vec![each[7], each[8], record];
+    if record.faulty() {
+        records.push(Record { kind: 99, ..each[0] });
+    }
+    records.push(each[9]);
+    let mut plan = Plan::accepted(prefetch_on(), &few(), &records);
+    plan.meant = Some(if record.faulty() { 7 } else { 0 });
+    plan
+}
+
+/// No record, one, 4,096; and 4,097, which is refused.
+fn list_lengths(plans: &mut Vec<Plan>) {
+    for n in [0, 1, MOST_RECORDS, MOST_RECORDS + 1] {
+        let records: Vec<Record> = one_of_each().into_iter().cycle().take(n).collect();
+        let mut plan = Plan::accepted(prefetch_on(), &few(), &records);
+        plan.meant = Some(if n > MOST_RECORDS { 3 } else { 0 });
+        plans.push(plan);
+    }
+}
+
+/// Full memories: every edge in two display modes, and some lists; and each memory one byte too long.
+fn full_memories(plans: &mut Vec<Plan>) {
+    let full = Memories { lengths: SIZES, bios: BIOS_SIZE, rom: 0x20040 };
+    plans.push(edge_plan(0, &full));
+    plans.push(edge_plan(3, &full));
+    for seed in 0..12 {
+        let mut rng = Rng::new(20_000 + seed);
+        let board = boards::any_sound(&mut rng);
+        let records = Steps::new(&mut rng, &full).mixed(120);
+        plans.push(Plan::accepted(board, &full, &records));
+    }
+    for which in 0..8 {
+        let mut plan = Plan::accepted(Board::default(), &full, &one_of_each());
+        if which == 7 {
+            plan.bios_len += 1;
+        } else {
+            plan.lengths[which] += 1;
+            plan.store_len += 1;
+        }
+        plan.meant = Some(4);
+        plans.push(plan);
+    }
+}
+
+// ---- the file ----
+
+/// One case: lengths, fill seed, sheet, board, and what the Rust gives.
+pub fn encode(case: &Case, fill_seed: u32, rust: &Outcome) -> Vec<u8> {
+    let mut out = Vec::new();
+    let mut word = |n: usize| out.extend(u32::try_from(n).unwrap().to_le_bytes());
+    for (buffer, most) in buffers(case).into_iter().zip(MOST) {
+        assert!(buffer.len() <= most);
+        word(buffer.len());
+    }
+    case.lengths.iter().for_each(|&length| word(length));
+    word(fill_seed as usize);
+    out.extend(&case.sheet);
+    out.extend(&case.board);
+    out.extend(rust.report.number.to_le_bytes());
+    out.extend(rust.report.index.to_le_bytes());
+    out.extend(rust.report.total.to_le_bytes());
+    out.extend(&rust.board);
+    out.extend(&rust.answers);
+    let changed: Vec<usize> = (0..case.store.len()).filter(|&i| case.store[i] != rust.store[i]).collect();
+    out.extend((changed.len() as u32).to_le_bytes());
+    for i in changed {
+        out.extend((i as u32).to_le_bytes());
+        out.push(rust.store[i]);
+    }
+    out
+}
+
+/// The six buffers, in the order of the file's lengths.
+pub fn buffers(case: &Case) -> [&Vec<u8>; 6] {
+    [&case.sheet, &case.board, &case.store, &case.bios, &case.rom, &case.answers]
+}

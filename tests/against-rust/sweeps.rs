@@ -1,0 +1,322 @@
+//! Inputs gone through one by one: header, record and board bytes, opcodes, WAITCNT, regions, lengths.
+
+use crate::boards::{self, CODE_EDGES};
+use crate::bytes::*;
+use crate::gen::{Memories, Plan, Rng};
+use crate::machine::{BIOS_SIZE, ROM_WINDOW_SIZE, SIZES};
+use crate::refusals;
+use crate::steps::EDGES;
+
+pub fn for_each(visit: &mut dyn FnMut(Plan)) {
+    refusal_sets(visit);
+    list_lengths(visit);
+    sheet_bytes(visit);
+    board_bytes(visit);
+    board_fields(visit);
+    thumb_opcodes(visit);
+    arm_opcodes(visit);
+    waitcnt_values(visit);
+    prefetch_runs(visit);
+    fills(visit);
+    regions(visit);
+    edges(visit);
+    memory_lengths(visit);
+}
+
+fn small() -> Memories {
+    Memories { lengths: [40, 33, 8, 16, 24, 5, 7], bios: 32, rom: 0x140 }
+}
+
+fn full() -> Memories {
+    Memories { lengths: SIZES, bios: BIOS_SIZE, rom: 0x20010 }
+}
+
+fn prefetch_on() -> Board {
+    Board { waitcnt: 0x4000, ..Board::default() }
+}
+
+/// One record of each kind at each of its sizes.
+pub fn one_of_each() -> Vec<Record> {
+    let code = 0x0800_0100;
+    vec![
+        Record::new(READ, 1, 0x0300_0001, 0),
+        Record::new(READ, 2, 0x0200_0002, 0),
+        Record::new(READ, 4, 0x0800_0004, 0),
+        Record::new(WRITE, 1, 0x0600_0003, 0x1234_5678),
+        Record::new(WRITE, 2, 0x0E00_0001, 0x9ABC_DEF0),
+        Record::new(WRITE, 4, 0x0200_0004, 0x0FED_CBA9),
+        Record::new(WAITCNT, 0, 0, 0x4317),
+        Record::new(RESTART, 0, code, 0),
+        Record::new(IDLE, 0, 0, 27),
+        Record::new(FETCH, 0, code, 0),
+        Record::new(INSTRUCTION, 2, code + 2, 0x6808),
+        Record { flag: 1, ..Record::new(INSTRUCTION, 4, code + 4, 0xE591_0000) },
+        Record::new(PC, 0, 0x0800_0000, 0),
+        Record::new(LATCH, 0, 0, 0xE129_F000),
+    ]
+}
+
+/// Every set of the seven refusals, eight times.
+fn refusal_sets(visit: &mut dyn FnMut(Plan)) {
+    for set in 1..128u64 {
+        let numbers: Vec<u32> = (1..=7).filter(|k| set >> (k - 1) & 1 == 1).collect();
+        for turn in 0..8 {
+            visit(refusals::with(&mut Rng::new(1000 * set + turn), &numbers));
+        }
+    }
+}
+
+/// No record, one, 4,095, 4,096; and 4,097, which is refused.
+fn list_lengths(visit: &mut dyn FnMut(Plan)) {
+    for n in [0, 1, 2, MOST_RECORDS - 1, MOST_RECORDS, MOST_RECORDS + 1] {
+        let records: Vec<Record> = one_of_each().into_iter().cycle().take(n).collect();
+        for more in [0, 1, 11, 12, 13] {
+            let mut plan = Plan::accepted(prefetch_on(), &small(), &records);
+            plan.answers_len += more;
+            plan.meant = Some(if n > MOST_RECORDS { 3 } else { 0 });
+            visit(plan);
+        }
+    }
+}
+
+/// Each byte of a sheet with one record of each kind and size, at all its 256 values.
+fn sheet_bytes(visit: &mut dyn FnMut(Plan)) {
+    let records = one_of_each();
+    for at in 0..HEADER + RECORD * records.len() {
+        for byte in 0..=255 {
+            let mut plan = Plan::accepted(prefetch_on(), &small(), &records);
+            plan.sheet[at] = byte;
+            plan.meant = None;
+            visit(plan);
+        }
+    }
+}
+
+/// What can be seen of a prefetch: where it stands, what it holds, how it goes on.
+fn prefetch_look(board: &Board) -> Vec<Record> {
+    let head = if board.count == 0 { board.next } else { board.head_addr };
+    vec![
+        Record::new(IDLE, 0, 0, 2),
+        Record::new(FETCH, 0, head, 0),
+        Record::new(IDLE, 0, 0, 11),
+        Record::new(INSTRUCTION, 2, head.wrapping_add(2), 0x6808),
+        Record::new(INSTRUCTION, 4, head.wrapping_add(4), 0xE1A0_0000),
+        Record::new(IDLE, 0, 0, 40),
+    ]
+}
+
+/// Each byte of some sound boards, at all its 256 values.
+fn board_bytes(visit: &mut dyn FnMut(Plan)) {
+    let mut rng = Rng::new(72);
+    let random = (0..8).map(|_| boards::any_sound(&mut rng));
+    for board in [Board::default()].into_iter().chain(boards::unreached()).chain(random) {
+        for at in 0..BOARD {
+            for byte in 0..=255 {
+                let mut plan = Plan::accepted(board, &small(), &prefetch_look(&board));
+                plan.board[at] = byte;
+                plan.meant = None;
+                visit(plan);
+            }
+        }
+    }
+}
+
+/// Boards with the prefetch's fields set to every mixture of values at and over their ends.
+fn board_fields(visit: &mut dyn FnMut(Plan)) {
+    const NEXT: [u32; 12] = [
+        0, 2, 0x07FF_FFFE, 0x0800_0000, 0x0800_0002, 0x0802_0000, 0x0A00_0000, 0x0BFF_FFFE,
+        0x0DFF_FFFE, 0x0E00_0000, 0x0E00_0002, 0xFFFF_FFFE,
+    ];
+    for next in NEXT {
+        for count in 0..10 {
+            for wait_left in [0, 1, 5, 9, 10] {
+                for bits in 0..8 {
+                    boards_with(visit, next, count, wait_left, bits);
+                }
+            }
+        }
+    }
+}
+
+/// Filling, first beat and the switch by `bits`; head address 0, right, and one halfword too low.
+fn boards_with(visit: &mut dyn FnMut(Plan), next: u32, count: u8, wait_left: u32, bits: u8) {
+    let right = next.wrapping_sub(2 * u32::from(count));
+    for head_addr in [0, right, right.wrapping_sub(2)] {
+        let board = Board {
+            waitcnt: if bits & 4 == 0 { 0x4000 } else { 0 },
+            head: (count + 5) % 8,
+            count,
+            filling: bits & 1,
+            first_beat: bits >> 1 & 1,
+            wait_left,
+            next,
+            head_addr,
+            ..Board::default()
+        };
+        let mut plan = Plan::accepted(board, &small(), &prefetch_look(&board));
+        plan.meant = None;
+        visit(plan);
+    }
+}
+
+/// All Thumb opcodes, in ROM with the prefetch off and in IWRAM with it on.
+fn thumb_opcodes(visit: &mut dyn FnMut(Plan)) {
+    for (board, address) in [(Board::default(), 0x0800_0100), (prefetch_on(), 0x0300_0000)] {
+        for high in 0..16u32 {
+            let opcodes = (0..4096u32).map(|low| high << 12 | low);
+            let records: Vec<Record> =
+                opcodes.map(|opcode| Record::new(INSTRUCTION, 2, address, opcode)).collect();
+            visit(Plan::accepted(board, &small(), &records));
+        }
+    }
+}
+
+/// All mixtures of the bits 20–27 and 4–7 of an ARM opcode, the others random.
+fn arm_opcodes(visit: &mut dyn FnMut(Plan)) {
+    let mut rng = Rng::new(32);
+    for turn in 0..16 {
+        let address = if turn % 2 == 0 { 0x0800_0100 } else { 0x0300_0000 };
+        let records: Vec<Record> = (0..4096u32)
+            .map(|bits| {
+                let opcode = (bits >> 4) << 20 | (bits & 15) << 4 | rng.u32() & 0xF00F_FF0F;
+                Record::new(INSTRUCTION, 4, address, opcode)
+            })
+            .collect();
+        visit(Plan::accepted(Board::default(), &small(), &records));
+    }
+}
+
+/// All WAITCNT values, each with every price that it sets.
+fn waitcnt_values(visit: &mut dyn FnMut(Plan)) {
+    for high in 0..128u32 {
+        let mut records = Vec::new();
+        for low in 0..512 {
+            records.push(Record::new(WAITCNT, 0, 0, high << 9 | low));
+            for window in [0x0800_0000, 0x0A00_0000, 0x0C00_0000] {
+                records.push(Record::new(READ, 2, window, 0));
+                records.push(Record::new(READ, 4, window, 0));
+            }
+            records.push(Record::new(READ, 1, 0x0E00_0000, 0));
+        }
+        let waitcnt = if high % 2 == 0 { 0 } else { 0x8000 };
+        visit(Plan::accepted(Board { waitcnt, ..Board::default() }, &small(), &records));
+    }
+}
+
+/// A restart near every window and block edge, watched cycle by cycle, then taken empty.
+fn prefetch_runs(visit: &mut dyn FnMut(Plan)) {
+    for waitcnt in [0x4000, 0x4317, 0x4060, 0x5FFF, 0x4490, 0x4294] {
+        for edge in CODE_EDGES {
+            for by in 0..20u32 {
+                let start = (edge - 16).wrapping_add(by);
+                let mut records = vec![Record::new(RESTART, 0, start, 0)];
+                records.extend([Record::new(IDLE, 0, 0, 1); 80]);
+                records.extend((0..10).map(|i| Record::new(FETCH, 0, start.wrapping_add(2 * i), 0)));
+                records.push(Record::new(IDLE, 0, 0, 7));
+                let memories = Memories { rom: 0x20040, ..small() };
+                visit(Plan::accepted(Board { waitcnt, ..Board::default() }, &memories, &records));
+            }
+        }
+    }
+}
+
+/// The same, stopped after each number of cycles, so that the whole board is seen there.
+fn fills(visit: &mut dyn FnMut(Plan)) {
+    for waitcnt in [0x4000, 0x4317, 0x4060, 0x5FFF] {
+        for edge in CODE_EDGES {
+            for by in [0, 2, 6, 10, 14] {
+                for cycles in 0..76 {
+                    let board = Board { waitcnt, ..Board::default() };
+                    visit(Plan::accepted(board, &small(), &fill(edge - by, cycles)));
+                }
+            }
+        }
+    }
+}
+
+/// A restart and so many cycles.
+pub fn fill(start: u32, cycles: u32) -> Vec<Record> {
+    vec![Record::new(RESTART, 0, start, 0), Record::new(IDLE, 0, 0, cycles)]
+}
+
+/// Loads and stores at 32 offsets of each of the 256 top bytes, over full memories.
+fn regions(visit: &mut dyn FnMut(Plan)) {
+    const OFFSETS: [u32; 32] = [
+        0, 1, 2, 3, 0x204, 0x3FE, 0x3FF, 0x400, 0x7FE, 0x7FF, 0x800, 0x803, 0x804, 0x3FFE, 0x3FFF,
+        0x4000, 0x7FFF, 0x8000, 0xFFFE, 0xFFFF, 0x1_0000, 0x1_0800, 0x1_3FFF, 0x1_4000, 0x1_7FFF,
+        0x1_8000, 0x1_FFFF, 0x2_0000, 0x3_FFFF, 0x4_0000, 0xFF_FFFE, 0xFF_FFFF,
+    ];
+    let mut rng = Rng::new(256);
+    for tops in 0..16u32 {
+        let mut records = Vec::new();
+        for top in 16 * tops..16 * tops + 16 {
+            for offset in OFFSETS {
+                for size in [1, 2, 4] {
+                    let address = top << 24 | offset;
+                    records.push(Record::new(WRITE, size, address, rng.u32()));
+                    records.push(Record::new(READ, size, address, 0));
+                }
+            }
+        }
+        visit(Plan::accepted(Board::default(), &full(), &records));
+    }
+}
+
+/// Stores and loads from 4 below to 3 above each edge, in each display mode, over full memories.
+pub fn edges(visit: &mut dyn FnMut(Plan)) {
+    for mode in 0..8 {
+        visit(edge_plan(mode, &full()));
+    }
+}
+
+pub fn edge_plan(mode: u32, memories: &Memories) -> Plan {
+    let mut rng = Rng::new(u64::from(mode));
+    let mut records = vec![Record::new(PC, 0, 0x4000 - mode % 2, 0)];
+    for edge in EDGES {
+        for by in 0..8 {
+            let address = edge.wrapping_sub(4).wrapping_add(by);
+            records.push(Record::new(WRITE, 1, 0x0400_0000, mode));
+            for size in [1, 2, 4] {
+                records.push(Record::new(WRITE, size, address, rng.u32()));
+                records.push(Record::new(READ, size, address, 0));
+            }
+        }
+    }
+    Plan::accepted(Board::default(), memories, &records)
+}
+
+/// Each memory alone at lengths around 0, half and full, looked at around its end and its mirrors' ends.
+fn memory_lengths(visit: &mut dyn FnMut(Plan)) {
+    const BASES: [u32; 9] = [
+        0x0200_0000, 0x0300_0000, 0x0400_0000, 0x0500_0000, 0x0600_0000, 0x0700_0000, 0x0E00_0000,
+        0x0000_0000, 0x0A00_0000,
+    ];
+    for (which, base) in BASES.into_iter().enumerate() {
+        let size = *SIZES.get(which).unwrap_or(if which == 7 { &BIOS_SIZE } else { &ROM_WINDOW_SIZE });
+        for length in [0, 1, 2, 3, 5, size / 2, size / 2 + 1, size - 1, size, size + 1] {
+            let mut memories = Memories { lengths: [0; 7], bios: 0, rom: 0 };
+            match which {
+                7 => memories.bios = length,
+                8 => memories.rom = length,
+                _ => memories.lengths[which] = length,
+            }
+            let mut plan = Plan::accepted(Board::default(), &memories, &around(base, length, size));
+            plan.meant = Some(if length > size { 4 } else { 0 });
+            visit(plan);
+        }
+    }
+}
+
+fn around(base: u32, length: usize, size: usize) -> Vec<Record> {
+    let mut records = Vec::new();
+    for end in [0, length, size, 2 * length, size + length] {
+        for by in 0..8 {
+            let address = base.wrapping_add(end as u32).wrapping_add(by).wrapping_sub(4);
+            for size in [1, 2, 4] {
+                records.push(Record::new(WRITE, size, address, 0x8765_4321 ^ address));
+                records.push(Record::new(READ, size, address, 0));
+            }
+        }
+    }
+    records
+}
