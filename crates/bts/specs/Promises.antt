@@ -1,17 +1,20 @@
 -- What a reader gets who trusts only the exported function: demands 1 and 3, of the outcome of any call of `bts_run`. Its contract says
 -- of a call that was lent `i` and left `o` that `o ≡ outcome i`; everything here follows from that equation.
-use mathlib.Core.Path.{_≡_, sym, ap, _∙_}
+use mathlib.Core.Path.{_≡_, refl, sym, ap, _∙_}
 use mathlib.Core.Logic.{_≢_}
 use mathlib.Core.Bool.{Bool, true}
 use Prim.Native.Nat.{ℕ, _+_, _*_, _≤_, _<_}
 use Rattle.model.specs.Base.{sum, byteAt}
 use Rattle.model.specs.Sheet.{recordCount, recordsOf}
 use Rattle.model.specs.BoardBytes.{sound}
-use Rattle.model.specs.Outcome.{Lent, LentBytes, Outcome, outcome}
+use Rattle.model.specs.Outcome.{Lent, LentBytes, Outcome, verdict, outcomeBy, outcome}
 use Rattle.model.specs.Alike.{AlikeSheets, AlikeBoards, Limits, cyclesFrom}
 use Rattle.model.specs.Laws.Refusal.{Acceptable, zero-exactly, Untouched, refused-untouched}
 use Rattle.model.specs.Laws.Fits.{board-sound, total-fits}
 use Rattle.model.specs.Laws.Demand3.{demand3}
+use Rattle.bts.specs.Verdicts.{ready, index-small}
+use Rattle.model.specs.declared.Verdict.{Verdict}
+use Rattle.model.specs.declared.Verdict.the-variants.{Accepted, Refused}
 
 -- ---- demand 1
 
@@ -29,6 +32,15 @@ leaves-sound i o e b n = rw e (board-sound i b (rw e at n))
 
 pub small-total : (i : Lent) (o : Outcome) → o ≡ outcome i → LentBytes i → o .number ≡ 0 → o .total ≤ 4096 * 0xFFFF_FFFF
 small-total i o e b n = rw e (total-fits i b (rw e at n))
+
+-- the index is that of a record or their number
+pub few-records : (i : Lent) (o : Outcome) → o ≡ outcome i → o .index ≤ 4096
+unfolding outcome
+few-records i o e = rw e (by-verdict (verdict i) refl)
+  where
+    by-verdict : (v : Verdict) → verdict i ≡ v → outcomeBy i v .index ≤ 4096
+    by-verdict Accepted a = (ready i a) .few
+    by-verdict (Refused r) a = index-small i r a
 
 -- ---- demand 3
 
