@@ -2,7 +2,7 @@
 -- definitions. Assumes nothing.
 use mathlib.Core.Path.{_≡_, refl, _∙_, ap, sym}
 use mathlib.Core.Bool.{Bool, true, false, not}
-use Prim.Native.Nat.{ℕ, _+_, _*_, _/_, _%_, _≤_, _<_}
+use Prim.Native.Nat.{ℕ, _/_, _%_, _<_}
 use native.Mathlib.Omega.{arith}
 use lib.Dec.{ltb}
 use borrow.Author.Tests.{lt-ltb, ltb-true}
@@ -11,27 +11,28 @@ use Rattle.model.specs.Region.{biosSize, vramSize, decode}
 use Rattle.model.specs.Mirror.{vramOffset}
 use Rattle.model.specs.Video.{isObjVram}
 use Rattle.model.specs.Load.{isSram}
-use Rattle.model.specs.Laws.Choice.{choose, if-true}
+use Rattle.model.specs.Laws.Choice.{choose}
 use Rattle.model.specs.declared.Region.{Region}
-use Rattle.memory.specs.OpenBus.{latching, inBios, protectedRead}
+use Rattle.memory.specs.OpenBus.{latching, protectedRead}
 use Rattle.memory.specs.Video.{vramTarget, vramClass, doubled, fillsHalfword, byteAction}
-use Rattle.memory.specs.declared.openbus.ProtectedRead.{ProtectedRead}
 use Rattle.memory.specs.declared.openbus.ProtectedRead.the-variants.{Latched, Unprotected}
 use Rattle.memory.specs.declared.video.VideoTarget.{VideoTarget}
-use Rattle.memory.specs.declared.video.VideoTarget.the-variants.{Palette, Oam, BgVram, ObjVram}
 use Rattle.memory.specs.declared.video.VideoWriteAction.{VideoWriteAction}
 use Rattle.memory.specs.declared.video.VideoWriteAction.the-variants.{Store, ExpandByteToHalfword, Ignore, Reject}
 use Rattle.memory.specs.declared.video.VramTarget.{VramTarget}
-use Rattle.memory.specs.declared.video.VramTarget.the-variants.{Within, Outside}
+use Rattle.memory.specs.declared.video.VramTarget.the-variants.{Within}
 
 -- the test of the bus of 8 bits, as the code makes it
 pub sram-test : (a : ℕ) {r : Region} {t u : Bool} → r ≡ decode a → t ≡ isSram r → t ≡ u → isSram (decode a) ≡ u
 sram-test a p h e = ap (λ (x : Region). isSram x) (sym p) ∙ sym h ∙ e
 
+-- ---- BIOS loads
+
 latched-case : (t : Bool) (op op' : ℕ) → (if t then Unprotected else Latched op) ≡ Latched op' → (t ≡ false) × (op' ≡ op)
 latched-case true op op' e = let z : _≡_ {A = Bool} true false = cc in (cc, cc)
 latched-case false op op' e = (refl, cc)
 
+-- the latch was read, so the pc is outside the BIOS
 pub latched : (pc op : ℕ) {op' : ℕ} → protectedRead pc (latching op) ≡ Latched op' → (ltb pc biosSize ≡ false) × (op' ≡ op)
 unfolding protectedRead
 latched pc op {op'} e = latched-case (ltb pc biosSize) op op' e
@@ -76,7 +77,9 @@ filled-with t v {x} {h} s p q =
 pub vram-within : (a : ℕ) → vramOffset a < vramSize
 unfolding vramOffset
 vram-within a =
-    choose (λ (i : ℕ). i < vramSize) (ltb (a % 0x20000) 0x10000) (λ e. omega (arith, ltb-true (a % 0x20000) 0x10000 e)) (λ e. omega arith)
+    choose (λ (i : ℕ). i < vramSize) (ltb (a % 0x20000) 0x10000)
+    (λ e. omega (arith, ltb-true (a % 0x20000) 0x10000 e))
+    (λ e. omega arith)
 
 -- so it is classified
 pub vram-class : (mode a : ℕ) {i m : ℕ} {x y : VramTarget} → i ≡ vramOffset a → m ≡ mode → x ≡ vramClass i m → x ≡ y
@@ -88,6 +91,7 @@ class-fills : (t : Bool) {u : VideoTarget} → Within u ≡ Within (vramTarget t
 class-fills true e = cc
 class-fills false e = cc
 
+-- and its class says whether the halfword is filled
 pub vram-fills : (mode a : ℕ) {i m : ℕ} {x : VramTarget} {t : VideoTarget} → i ≡ vramOffset a → m ≡ mode → x ≡ vramClass i m → x ≡ Within t
     → fillsHalfword t ≡ not (isObjVram mode (vramOffset a))
 vram-fills mode a p q e f = class-fills (isObjVram mode (vramOffset a)) (vram-class mode a p q e f)

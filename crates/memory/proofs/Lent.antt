@@ -1,15 +1,13 @@
 -- A part of the store that was lent and is back, and what lands in it: the laws by which a leaf that writes its slice is a store
 -- of the definitions. Assumes nothing.
-use mathlib.Core.Path.{_≡_, refl, _∙_, ap, ap₂, sym}
-use mathlib.Core.Bool.{Bool, true, false}
-use mathlib.Core.List.{List, [], _∷_, _++_}
+use mathlib.Core.Path.{_≡_, _∙_, ap, ap₂, sym}
+use mathlib.Core.List.{List, _++_}
 use Prim.Native.Nat.{ℕ, _+_, _-_, _≤_, _<_}
 use native.Mathlib.Omega.{arith}
 use lib.Dec.{ltb}
 use lib.ListN.{take, drop, set, getD, take-append-drop, length-take, List·getD-eq-default}
 use lib.Seq.{take-set-le, drop-set-lt, take-set-lt, drop-set-add, set-out, getD-take, getD-drop}
 use borrow.Author.Tests.{ltb-true, ltb-false}
-use Rattle.model.specs.Base.{if_then_else_}
 use Rattle.model.specs.Load.{Part, byteIn}
 use Rattle.model.specs.Store.{Put, landed, put}
 use Rattle.model.specs.Laws.Choice.{choose}

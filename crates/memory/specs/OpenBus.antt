@@ -1,7 +1,7 @@
 -- BIOS loads from outside the BIOS, and what an empty cartridge slot shows.
 -- From GBATEK, "GBA Unpredictable Things" (reading from BIOS memory, unused memory); src/bus/openbus.rs.
-use mathlib.Core.Bool.{Bool, true, false}
-use Prim.Native.Nat.{ℕ, _+_, _*_, _/_, _%_, _^_}
+use mathlib.Core.Bool.{Bool}
+use Prim.Native.Nat.{ℕ, _+_, _*_, _/_, _%_}
 use lib.Dec.{ltb}
 use Rattle.model.specs.Base.{if_then_else_, further}
 use Rattle.model.specs.Region.{biosSize}
@@ -9,7 +9,7 @@ use Rattle.memory.specs.declared.openbus.OpenBusState.{OpenBusState}
 use Rattle.memory.specs.declared.openbus.ProtectedRead.{ProtectedRead}
 use Rattle.memory.specs.declared.openbus.ProtectedRead.the-variants.{Latched, Unprotected}
 
--- no BIOS opcode fetched yet
+-- the latch that holds an opcode; 0 before any was fetched
 abbrev pub latching : ℕ → OpenBusState
 latching op = record { «last_bios_opcode» = op }
 

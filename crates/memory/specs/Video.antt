@@ -15,11 +15,12 @@ use Rattle.memory.specs.declared.video.VideoWriteAction.the-variants.{St
 use Rattle.memory.specs.declared.video.VramTarget.{VramTarget}
 use Rattle.memory.specs.declared.video.VramTarget.the-variants.{Within, Outside}
 
--- where in VRAM a place lies; the hardware has 96 KiB
+-- VRAM holds the background's data and the objects' tiles
 abbrev pub vramTarget : Bool → VideoTarget
 vramTarget true = ObjVram
 vramTarget false = BgVram
 
+-- which of them stands at a place of its 96 KiB
 unfoldable pub vramClass : ℕ → ℕ → VramTarget
 vramClass offset mode = if ltb offset vramSize then Within (vramTarget (isObjVram mode offset)) else Outside
 

@@ -29,10 +29,10 @@ ghost use mathlib.Core.List.{[]};
 ghost use Prim.Native.Nat.{_+_, _≤_, _<_};
 ghost use lib.ListN.{length};
 ghost use Rattle.model.specs.Base.{if_then_else_, bit, byteOf};
-ghost use Rattle.model.specs.Mirror.{vramOffset, sramOffset};
-ghost use Rattle.model.specs.Load as loads;
-ghost use Rattle.model.specs.Store as stores;
-ghost use Rattle.model.specs.Video.{VideoRam};
+ghost use Rattle.model.specs.Mirror.{sramOffset};
+ghost use Rattle.model.specs.Load.{lengthsSum, sramPart, biosByte, sramByte, isSram, load8, load16, load32, load};
+ghost use Rattle.model.specs.Store.{landed, put, putHalf, target, targetIn, modeOf, puts8At, puts8, puts16, puts32, puts, videoCount, counted};
+ghost use Rattle.model.specs.declared.Region.the-variants.{Vram};
 ghost use Rattle.model.specs.declared.AccessSize.the-variants.{Byte, Half, Word};
 ghost use Rattle.memory.specs.Bus.{busFrom, partOf};
 ghost use Rattle.memory.specs.Video.{fillsHalfword};
@@ -43,7 +43,7 @@ pub mod video;
 
 // A counter stops at its greatest number.
 pub fn saturating_add(a: u64, b: u64) -> u64
-    ensures { λ r. ⌜ r ≡ stores.counted a b ⌝ }
+    ensures { λ r. ⌜ r ≡ counted a b ⌝ }
 {
     if b <= 0xFFFF_FFFF_FFFF_FFFF - a {
         a + b
@@ -67,7 +67,7 @@ fn lane(value: u32, k: u32) -> u8
 
 // The bus of 8 bits.
 fn is_sram(region: Region) -> bool
-    ensures { λ r. ⌜ r ≡ loads.isSram region ⌝ }
+    ensures { λ r. ⌜ r ≡ isSram region ⌝ }
 {
     match region {
         Region::Bios => false,
@@ -90,7 +90,7 @@ fn is_sram(region: Region) -> bool
 
 // The region has shown that the address is below the BIOS's end.
 fn read_bios8(addr: u32, pc: u32, latch: u32, bios: &[u8]) -> u8
-    ensures { λ r. ⌜ r ≡ loads.biosByte (now (bios .entry)) pc latch addr ⌝ }
+    ensures { λ r. ⌜ r ≡ biosByte (now (bios .entry)) pc latch addr ⌝ }
 {
     let state = OpenBusState {
         last_bios_opcode: latch,
@@ -102,10 +102,10 @@ fn read_bios8(addr: u32, pc: u32, latch: u32, bios: &[u8]) -> u8
     }
 }
 
-// A load repeats at the chip's length; without a chip the lines stay high.
+// A load repeats at the chip's length; without a chip it gives 0xFF.
 fn read_sram8(addr: u32, store: &[u8], lengths: Lengths) -> u8
-    requires { ⌜ loads.lengthsSum lengths ≡ length (now store) ⌝ }
-    ensures { λ r. ⌜ r ≡ loads.sramByte (now (store .entry)) (loads.sramPart lengths) (sramOffset addr) ⌝ }
+    requires { ⌜ lengthsSum lengths ≡ length (now store) ⌝ }
+    ensures { λ r. ⌜ r ≡ sramByte (now (store .entry)) (sramPart lengths) (sramOffset addr) ⌝ }
 {
     let size = lengths.sram;
     if size == 0 {
@@ -123,8 +123,8 @@ pub fn read8(
     store: &[u8],
     lengths: Lengths,
 ) -> u8
-    requires { ⌜ loads.lengthsSum lengths ≡ length (now store) ⌝ }
-    ensures { λ r. ⌜ r ≡ loads.load8 (busFrom pc latch (now (bios .entry)) (now (rom .entry)) (now (store .entry)) lengths) addr ⌝ }
+    requires { ⌜ lengthsSum lengths ≡ length (now store) ⌝ }
+    ensures { λ r. ⌜ r ≡ load8 (busFrom pc latch (now (bios .entry)) (now (rom .entry)) (now (store .entry)) lengths) addr ⌝ }
 {
     let region = decode(addr);
     match region {
@@ -150,7 +150,7 @@ pub fn read8(
     }
 }
 
-// SRAM's one byte stands in both halves.
+// Two byte loads, each decoded by itself; SRAM repeats its one byte.
 pub fn read16(
     addr: u32,
     pc: u32,
@@ -160,8 +160,8 @@ pub fn read16(
     store: &[u8],
     lengths: Lengths,
 ) -> u16
-    requires { ⌜ loads.lengthsSum lengths ≡ length (now store) ⌝ }
-    ensures { λ r. ⌜ r ≡ loads.load16 (busFrom pc latch (now (bios .entry)) (now (rom .entry)) (now (store .entry)) lengths) addr ⌝ }
+    requires { ⌜ lengthsSum lengths ≡ length (now store) ⌝ }
+    ensures { λ r. ⌜ r ≡ load16 (busFrom pc latch (now (bios .entry)) (now (rom .entry)) (now (store .entry)) lengths) addr ⌝ }
 {
     let lo = read8(addr, pc, latch, bios, rom, store, lengths) as u16;
     let region = decode(addr);
@@ -173,6 +173,7 @@ pub fn read16(
     lo + 0x100 * hi
 }
 
+// Two halfword loads, each decoded by itself.
 pub fn read32(
     addr: u32,
     pc: u32,
@@ -182,8 +183,8 @@ pub fn read32(
     store: &[u8],
     lengths: Lengths,
 ) -> u32
-    requires { ⌜ loads.lengthsSum lengths ≡ length (now store) ⌝ }
-    ensures { λ r. ⌜ r ≡ loads.load32 (busFrom pc latch (now (bios .entry)) (now (rom .entry)) (now (store .entry)) lengths) addr ⌝ }
+    requires { ⌜ lengthsSum lengths ≡ length (now store) ⌝ }
+    ensures { λ r. ⌜ r ≡ load32 (busFrom pc latch (now (bios .entry)) (now (rom .entry)) (now (store .entry)) lengths) addr ⌝ }
 {
     let region = decode(addr);
     if is_sram(region) {
@@ -196,6 +197,7 @@ pub fn read32(
     lo + 0x1_0000 * hi
 }
 
+// The three, by the size.
 pub fn read(
     size: AccessSize,
     addr: u32,
@@ -206,8 +208,8 @@ pub fn read(
     store: &[u8],
     lengths: Lengths,
 ) -> u32
-    requires { ⌜ loads.lengthsSum lengths ≡ length (now store) ⌝ }
-    ensures { λ r. ⌜ r ≡ loads.load (busFrom pc latch (now (bios .entry)) (now (rom .entry)) (now (store .entry)) lengths) size addr ⌝ }
+    requires { ⌜ lengthsSum lengths ≡ length (now store) ⌝ }
+    ensures { λ r. ⌜ r ≡ load (busFrom pc latch (now (bios .entry)) (now (rom .entry)) (now (store .entry)) lengths) size addr ⌝ }
 {
     match size {
         AccessSize::Byte => read8(addr, pc, latch, bios, rom, store, lengths) as u32,
@@ -218,18 +220,18 @@ pub fn read(
 
 // ---- stores; each gives the video halfwords that its caller adds to the region's counter
 
-// The display mode, by which VRAM is split.
+// The display mode.
 fn dispcnt_bg_mode(store: &[u8], lengths: Lengths) -> u8
-    requires { ⌜ loads.lengthsSum lengths ≡ length (now store) ⌝ }
-    ensures { λ r. ⌜ r ≡ stores.modeOf lengths (now (store .entry)) ⌝ }
+    requires { ⌜ lengthsSum lengths ≡ length (now store) ⌝ }
+    ensures { λ r. ⌜ r ≡ modeOf lengths (now (store .entry)) ⌝ }
 {
     byte_in(store, parts::io(lengths), 0) % 8
 }
 
 // A store does not repeat at the chip's length.
 fn write_sram8(addr: u32, value: u8, store: &mut [u8], lengths: Lengths)
-    requires { ⌜ loads.lengthsSum lengths ≡ length (now store) ⌝ }
-    ensures { λ r. ⌜ now (store .exit) ≡ stores.landed (now (store .entry)) (stores.put (loads.sramPart lengths) (sramOffset addr) value) ⌝ }
+    requires { ⌜ lengthsSum lengths ≡ length (now store) ⌝ }
+    ensures { λ r. ⌜ now (store .exit) ≡ landed (now (store .entry)) (put (sramPart lengths) (sramOffset addr) value) ⌝ }
 {
     put(store, parts::sram(lengths), sram_window_offset(addr), value)
 }
@@ -237,7 +239,7 @@ fn write_sram8(addr: u32, value: u8, store: &mut [u8], lengths: Lengths)
 // A byte store fills its halfword, or is dropped.
 fn write8_video(target: VideoTarget, part: Part, offset: usize, value: u8, store: &mut [u8]) -> u32
     requires { ⌜ part .base + part .size ≤ length (now store) ⌝ }
-    ensures { λ r. ⌜ now (store .exit) ≡ stores.landed (now (store .entry)) (if fillsHalfword target then stores.putHalf (partOf part) offset value value else []) ⌝ }
+    ensures { λ r. ⌜ now (store .exit) ≡ landed (now (store .entry)) (if fillsHalfword target then putHalf (partOf part) offset value value else []) ⌝ }
     ensures { λ r. ⌜ r ≡ bit (fillsHalfword target) ⌝ }
 {
     let action = video::resolve_strb(target, value);
@@ -252,10 +254,11 @@ fn write8_video(target: VideoTarget, part: Part, offset: usize, value: u8, store
     }
 }
 
+// VRAM is split by the display mode of this moment.
 fn write8_vram(addr: u32, value: u8, store: &mut [u8], lengths: Lengths) -> u32
-    requires { ⌜ loads.lengthsSum lengths ≡ length (now store) ⌝ }
-    ensures { λ r. ⌜ now (store .exit) ≡ stores.landed (now (store .entry)) (stores.puts8At (stores.modeOf lengths (now (store .entry))) value (stores.Video VideoRam (loads.vramPart lengths) (vramOffset addr))) ⌝ }
-    ensures { λ r. ⌜ r ≡ stores.videoCount (stores.modeOf lengths (now (store .entry))) Byte (stores.Video VideoRam (loads.vramPart lengths) (vramOffset addr)) ⌝ }
+    requires { ⌜ lengthsSum lengths ≡ length (now store) ⌝ }
+    ensures { λ r. ⌜ now (store .exit) ≡ landed (now (store .entry)) (puts8At (modeOf lengths (now (store .entry))) value (targetIn lengths addr Vram)) ⌝ }
+    ensures { λ r. ⌜ r ≡ videoCount (modeOf lengths (now (store .entry))) Byte (targetIn lengths addr Vram) ⌝ }
 {
     let offset = vram_offset(addr);
     let mode = dispcnt_bg_mode(store, lengths);
@@ -267,9 +270,9 @@ fn write8_vram(addr: u32, value: u8, store: &mut [u8], lengths: Lengths) -> u32
 }
 
 pub fn write8(addr: u32, value: u8, store: &mut [u8], lengths: Lengths) -> u32
-    requires { ⌜ loads.lengthsSum lengths ≡ length (now store) ⌝ }
-    ensures { λ r. ⌜ now (store .exit) ≡ stores.landed (now (store .entry)) (stores.puts8 lengths (stores.modeOf lengths (now (store .entry))) addr value) ⌝ }
-    ensures { λ r. ⌜ r ≡ stores.videoCount (stores.modeOf lengths (now (store .entry))) Byte (stores.target lengths addr) ⌝ }
+    requires { ⌜ lengthsSum lengths ≡ length (now store) ⌝ }
+    ensures { λ r. ⌜ now (store .exit) ≡ landed (now (store .entry)) (puts8 lengths (modeOf lengths (now (store .entry))) addr value) ⌝ }
+    ensures { λ r. ⌜ r ≡ videoCount (modeOf lengths (now (store .entry))) Byte (target lengths addr) ⌝ }
 {
     let region = decode(addr);
     match region {
@@ -313,11 +316,12 @@ pub fn write8(addr: u32, value: u8, store: &mut [u8], lengths: Lengths) -> u32
     }
 }
 
-// Each halfword is stored whole, aligned: in video memory, where a byte is not stored as such, and alike elsewhere.
+// A halfword is stored whole, aligned, and not by the byte path, whose rules differ in video memory. Elsewhere the Rust stores
+// its two bytes one by one, which is the same. SRAM takes one byte.
 pub fn write16(addr: u32, value: u16, store: &mut [u8], lengths: Lengths) -> u32
-    requires { ⌜ loads.lengthsSum lengths ≡ length (now store) ⌝ }
-    ensures { λ r. ⌜ now (store .exit) ≡ stores.landed (now (store .entry)) (stores.puts16 lengths addr value) ⌝ }
-    ensures { λ r. ⌜ r ≡ stores.videoCount 0 Half (stores.target lengths addr) ⌝ }
+    requires { ⌜ lengthsSum lengths ≡ length (now store) ⌝ }
+    ensures { λ r. ⌜ now (store .exit) ≡ landed (now (store .entry)) (puts16 lengths addr value) ⌝ }
+    ensures { λ r. ⌜ r ≡ videoCount 0 Half (target lengths addr) ⌝ }
 {
     let region = decode(addr);
     match region {
@@ -364,10 +368,11 @@ pub fn write16(addr: u32, value: u16, store: &mut [u8], lengths: Lengths) -> u32
     }
 }
 
+// Two halfword stores, aligned; SRAM takes one byte.
 pub fn write32(addr: u32, value: u32, store: &mut [u8], lengths: Lengths) -> u32
-    requires { ⌜ loads.lengthsSum lengths ≡ length (now store) ⌝ }
-    ensures { λ r. ⌜ now (store .exit) ≡ stores.landed (now (store .entry)) (stores.puts32 lengths addr value) ⌝ }
-    ensures { λ r. ⌜ r ≡ stores.videoCount 0 Word (stores.target lengths addr) ⌝ }
+    requires { ⌜ lengthsSum lengths ≡ length (now store) ⌝ }
+    ensures { λ r. ⌜ now (store .exit) ≡ landed (now (store .entry)) (puts32 lengths addr value) ⌝ }
+    ensures { λ r. ⌜ r ≡ videoCount 0 Word (target lengths addr) ⌝ }
 {
     let region = decode(addr);
     if is_sram(region) {
@@ -381,10 +386,11 @@ pub fn write32(addr: u32, value: u32, store: &mut [u8], lengths: Lengths) -> u32
     low + high
 }
 
+// The three, by the size; the value's low bits are stored.
 pub fn write(size: AccessSize, addr: u32, value: u32, store: &mut [u8], lengths: Lengths) -> u32
-    requires { ⌜ loads.lengthsSum lengths ≡ length (now store) ⌝ }
-    ensures { λ r. ⌜ now (store .exit) ≡ stores.landed (now (store .entry)) (stores.puts lengths (stores.modeOf lengths (now (store .entry))) size addr value) ⌝ }
-    ensures { λ r. ⌜ r ≡ stores.videoCount (stores.modeOf lengths (now (store .entry))) size (stores.target lengths addr) ⌝ }
+    requires { ⌜ lengthsSum lengths ≡ length (now store) ⌝ }
+    ensures { λ r. ⌜ now (store .exit) ≡ landed (now (store .entry)) (puts lengths (modeOf lengths (now (store .entry))) size addr value) ⌝ }
+    ensures { λ r. ⌜ r ≡ videoCount (modeOf lengths (now (store .entry))) size (target lengths addr) ⌝ }
 {
     match size {
         AccessSize::Byte => write8(addr, (value % 256) as u8, store, lengths),

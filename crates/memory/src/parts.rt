@@ -1,14 +1,15 @@
-// The memories as parts of the one lent store, which stands for the Rust's `Vec`s: where each lies, and a byte or a halfword
-// loaded from one or stored in it.
+// The memories as parts of the one lent store, which stands for seven of the Rust's `Vec`s: where each lies, and a byte or a
+// halfword loaded from one or stored in it.
 use model::Lengths;
 ghost use mathlib.Core.Path.{_≡_};
 ghost use Prim.Native.Nat.{_+_, _/_, _%_, _^_, _≤_, _<_};
 ghost use lib.ListN.{length, set};
 ghost use Rattle.model.specs.Base.{byteAt};
-ghost use Rattle.model.specs.Load as loads;
-ghost use Rattle.model.specs.Store as stores;
+ghost use Rattle.model.specs.Load.{after, ewramPart, iwramPart, ioPart, palettePart, vramPart, oamPart, sramPart, lengthsSum, byteIn};
+ghost use Rattle.model.specs.Store.{landed, put, putHalf};
 ghost use Rattle.memory.specs.Bus.{partOf, Stands};
 
+// Where a memory starts in the store, and how long it is.
 pub struct Part {
     pub base: usize,
     pub size: usize,
@@ -19,7 +20,7 @@ pub struct Part {
 // The part of `size` bytes that follows another.
 fn after(part: Part, size: usize) -> Part
     requires { ⌜ part .base + part .size < 2 ^ 64 ⌝ }
-    ensures { λ r. ⌜ Stands (loads.after (partOf part) size) r ⌝ }
+    ensures { λ r. ⌜ Stands (after (partOf part) size) r ⌝ }
 {
     Part {
         base: part.base + part.size,
@@ -28,7 +29,7 @@ fn after(part: Part, size: usize) -> Part
 }
 
 pub fn ewram(lengths: Lengths) -> Part
-    ensures { λ r. ⌜ Stands (loads.ewramPart lengths) r ⌝ }
+    ensures { λ r. ⌜ Stands (ewramPart lengths) r ⌝ }
 {
     Part {
         base: 0,
@@ -37,43 +38,42 @@ pub fn ewram(lengths: Lengths) -> Part
 }
 
 pub fn iwram(lengths: Lengths) -> Part
-    requires { ⌜ loads.lengthsSum lengths < 2 ^ 64 ⌝ }
-    ensures { λ r. ⌜ Stands (loads.iwramPart lengths) r ⌝ }
+    ensures { λ r. ⌜ Stands (iwramPart lengths) r ⌝ }
 {
     after(ewram(lengths), lengths.iwram)
 }
 
 pub fn io(lengths: Lengths) -> Part
-    requires { ⌜ loads.lengthsSum lengths < 2 ^ 64 ⌝ }
-    ensures { λ r. ⌜ Stands (loads.ioPart lengths) r ⌝ }
+    requires { ⌜ lengthsSum lengths < 2 ^ 64 ⌝ }
+    ensures { λ r. ⌜ Stands (ioPart lengths) r ⌝ }
 {
     after(iwram(lengths), lengths.io)
 }
 
 pub fn palette(lengths: Lengths) -> Part
-    requires { ⌜ loads.lengthsSum lengths < 2 ^ 64 ⌝ }
-    ensures { λ r. ⌜ Stands (loads.palettePart lengths) r ⌝ }
+    requires { ⌜ lengthsSum lengths < 2 ^ 64 ⌝ }
+    ensures { λ r. ⌜ Stands (palettePart lengths) r ⌝ }
 {
     after(io(lengths), lengths.palette)
 }
 
 pub fn vram(lengths: Lengths) -> Part
-    requires { ⌜ loads.lengthsSum lengths < 2 ^ 64 ⌝ }
-    ensures { λ r. ⌜ Stands (loads.vramPart lengths) r ⌝ }
+    requires { ⌜ lengthsSum lengths < 2 ^ 64 ⌝ }
+    ensures { λ r. ⌜ Stands (vramPart lengths) r ⌝ }
 {
     after(palette(lengths), lengths.vram)
 }
 
 pub fn oam(lengths: Lengths) -> Part
-    requires { ⌜ loads.lengthsSum lengths < 2 ^ 64 ⌝ }
-    ensures { λ r. ⌜ Stands (loads.oamPart lengths) r ⌝ }
+    requires { ⌜ lengthsSum lengths < 2 ^ 64 ⌝ }
+    ensures { λ r. ⌜ Stands (oamPart lengths) r ⌝ }
 {
     after(vram(lengths), lengths.oam)
 }
 
 pub fn sram(lengths: Lengths) -> Part
-    requires { ⌜ loads.lengthsSum lengths < 2 ^ 64 ⌝ }
-    ensures { λ r. ⌜ Stands (loads.sramPart lengths) r ⌝ }
+    requires { ⌜ lengthsSum lengths < 2 ^ 64 ⌝ }
+    ensures { λ r. ⌜ Stands (sramPart lengths) r ⌝ }
 {
     after(oam(lengths), lengths.sram)
 }
@@ -94,11 +94,11 @@ fn write_slice(buf: &mut [u8], index: usize, value: u8)
     }
 }
 
-// ---- a memory as its part of the store, lent on to these
+// ---- a memory as its part of the store, lent on to the two above
 
 pub fn byte_in(store: &[u8], part: Part, index: usize) -> u8
     requires { ⌜ part .base + part .size ≤ length (now store) ⌝ }
-    ensures { λ r. ⌜ r ≡ loads.byteIn (now (store .entry)) (partOf part) index ⌝ }
+    ensures { λ r. ⌜ r ≡ byteIn (now (store .entry)) (partOf part) index ⌝ }
 {
     let base = part.base;
     let end = base + part.size;
@@ -107,7 +107,7 @@ pub fn byte_in(store: &[u8], part: Part, index: usize) -> u8
 
 pub fn put(store: &mut [u8], part: Part, index: usize, value: u8)
     requires { ⌜ part .base + part .size ≤ length (now store) ⌝ }
-    ensures { λ r. ⌜ now (store .exit) ≡ stores.landed (now (store .entry)) (stores.put (partOf part) index value) ⌝ }
+    ensures { λ r. ⌜ now (store .exit) ≡ landed (now (store .entry)) (put (partOf part) index value) ⌝ }
 {
     let base = part.base;
     let end = base + part.size;
@@ -117,7 +117,7 @@ pub fn put(store: &mut [u8], part: Part, index: usize, value: u8)
 // A halfword, aligned: `write16_video_raw`, for every memory.
 pub fn put_half(store: &mut [u8], part: Part, index: usize, value: u16)
     requires { ⌜ part .base + part .size ≤ length (now store) ⌝ }
-    ensures { λ r. ⌜ now (store .exit) ≡ stores.landed (now (store .entry)) (stores.putHalf (partOf part) index (value % 256) (value / 256 % 256)) ⌝ }
+    ensures { λ r. ⌜ now (store .exit) ≡ landed (now (store .entry)) (putHalf (partOf part) index (value % 256) (value / 256 % 256)) ⌝ }
 {
     let aligned = index / 2 * 2;
     put(store, part, aligned, (value % 256) as u8);

@@ -48,7 +48,7 @@ pub fn obj_vram_base(dispcnt_bg_mode: u8) -> u32
 pub fn classify_vram_offset(offset: u32, dispcnt_bg_mode: u8) -> VramTarget
     ensures { λ r. ⌜ r ≡ actions.vramClass offset «dispcnt_bg_mode» ⌝ }
 {
-    if 0x1_8000 <= offset {
+    if region::VRAM_SIZE <= offset as usize {
         return VramTarget::Outside;
     }
     if obj_vram_base(dispcnt_bg_mode) <= offset {

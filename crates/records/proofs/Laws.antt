@@ -1,17 +1,17 @@
--- Laws that several proofs share: a list written part by part, numbers joined from halves, and the search for the first record with a fault.
+-- Laws that several proofs share: of a list written part by part, of a number in two halves, and of the search for a record.
 -- Assumes nothing.
 use mathlib.Core.Path.{_≡_, refl, sym, ap, ap₂, _∙_}
 use mathlib.Core.Bool.{Bool, true, false}
-use mathlib.Core.List.{List, [], _∷_, _++_, map, append-assoc, append-nil}
-use Prim.Native.Nat.{ℕ, zero, suc, _+_, _-_, _*_, _^_, _≤_, _<_}
+use mathlib.Core.List.{List, [], _++_, append-assoc}
+use Prim.Native.Nat.{ℕ, suc, _+_, _-_, _*_, _%_, _^_, _≤_, _<_}
 use native.Mathlib.Nat.{zero-add, add-zero, sub-zero}
 use native.Mathlib.Omega.{arith}
-use lib.ListN.{length, getD, take, drop, length-append, length-take, length-drop, drop-of-length-le}
-use lib.Seq.{sets, sets-eq, take-all, take-append-add, take-at, take-suc, length-take-le, drop-length}
+use lib.ListN.{length, take, drop, length-append, length-drop}
+use lib.Seq.{sets, length-sets, sets-eq, take-all, take-at, length-take-le}
 use borrow.Rule.Slice.PartMut.{putMid}
-use Rattle.model.specs.Base.{if_then_else_, number}
+use Rattle.model.specs.Base.{bit, number}
 use Rattle.model.specs.Sheet.{recordAt, recordsFrom, firstOf}
-use Rattle.model.specs.Laws.Codec.{number-add}
+use Rattle.model.specs.Laws.Codec.{flag-byte, number-add}
 use Rattle.model.specs.declared.SheetRecord.{SheetRecord}
 
 -- ---- a list written part by part
@@ -25,7 +25,8 @@ pub begin : {n : ℕ} (l : List ℕ) → length l ≡ n → Begun n l 0 []
 begin l e = record { whole = e; front = refl }
 
 -- the next part, where x was put and is q
-pub next : {n a : ℕ} {l p x q : List ℕ} → Begun n l a p → (k : ℕ) → x ≡ q → length q ≡ k → a + k ≤ n → Begun n (putMid a k l x) (a + k) (p ++ q)
+pub next : {n a : ℕ} {l p x q : List ℕ} → Begun n l a p → (k : ℕ) → x ≡ q → length q ≡ k → a + k ≤ n
+    → Begun n (putMid a k l x) (a + k) (p ++ q)
 next {n} {a} {l} {p} {x} {q} b k e d h =
     let t : length (take a l) ≡ a = length-take-le a l (omega (arith, b .whole)) in
     record {
@@ -36,12 +37,22 @@ next {n} {a} {l} {p} {x} {q} b k e d h =
           ∙ ap₂ _++_ (b .front) e;
     }
 
--- the last part, stored byte by byte
-pub stored : {n a : ℕ} {l p : List ℕ} (vs : List ℕ) → Begun n l a p → a + length vs ≡ n → sets l a vs ≡ p ++ vs
-stored {n} {a} {l} vs b e =
-    sets-eq vs l a (omega (arith, b .whole))
-    ∙ ap₂ (λ (x y : List ℕ). x ++ vs ++ y) (b .front) (drop-of-length-le l {i = a + length vs} (omega (arith, b .whole)))
-    ∙ append-nil _
+-- the next part, where vs was stored byte by byte and is q
+pub stored : {n a : ℕ} {l p q : List ℕ} → Begun n l a p → (vs : List ℕ) → vs ≡ q → a + length vs ≤ n
+    → Begun n (sets l a vs) (a + length vs) (p ++ q)
+stored {n} {a} {l} {p} {q} b vs e h =
+    let t : length (take a l) ≡ a = length-take-le a l (omega (arith, b .whole)) in
+    record {
+      whole = length-sets l a vs ∙ b .whole;
+      front =
+          ap (take (a + length vs)) (sets-eq vs l a (omega (arith, b .whole)))
+          ∙ take-at (take a l ++ vs) (drop (a + length vs) l) (a + length vs) (simp (length-append, t))
+          ∙ ap₂ _++_ (b .front) e;
+    }
+
+-- a flag's byte is stored as it is
+pub flag : {r : ℕ} (t : Bool) → r ≡ bit t → r ≡ bit t % 256
+flag t e = e ∙ sym (flag-byte t)
 
 -- all parts
 pub written : {n : ℕ} {l p : List ℕ} → Begun n l n p → l ≡ p
@@ -49,12 +60,13 @@ written {n} {l} b = sym (take-all n l (omega (arith, b .whole))) ∙ b .front
 
 -- ---- a number of two halves
 
-pub joined : (n : ℕ) (s : List ℕ) (i : ℕ) {r low high : ℕ} → r ≡ low + 256 ^ n * high → low ≡ number n s i → high ≡ number n s (i + n) → r ≡ number (n + n) s i
-joined n s i e d h = e ∙ ap₂ (λ (a b : ℕ). a + 256 ^ n * b) d h ∙ sym (number-add n n s i)
+pub joined : (n : ℕ) (s : List ℕ) (i : ℕ) {low high : ℕ} → low ≡ number n s i → high ≡ number n s (i + n)
+    → low + 256 ^ n * high ≡ number (n + n) s i
+joined n s i e d = ap₂ (λ (a b : ℕ). a + 256 ^ n * b) e d ∙ sym (number-add n n s i)
 
--- ---- the first record that a test finds
+-- ---- the first of n records that a test finds
 
--- what stands after k records that it doesn't find
+-- it is none of the first k
 pub record Sought (f : SheetRecord → Bool) (s : List ℕ) (n k : ℕ) : Type 0 where
   pub within : k ≤ n
   pub same : firstOf f (recordsFrom s 0 n) ≡ k + firstOf f (recordsFrom s k (n - k))

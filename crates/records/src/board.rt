@@ -14,7 +14,7 @@ use waits::in_window;
 use waits::waitcnt::WaitCnt;
 ghost use mathlib.Core.Path.{_≡_};
 ghost use mathlib.Core.List.{_++_, map};
-ghost use Prim.Native.Nat.{_+_, _≤_};
+ghost use Prim.Native.Nat.{_≤_};
 ghost use lib.ListN.{length};
 ghost use Rattle.model.specs.Base.{bytes, encoded, field};
 ghost use Rattle.model.specs.BoardBytes as def;
@@ -56,15 +56,16 @@ pub fn load_halves(board: &[u8]) -> [u16; 8]
     requires { ⌜ length (now board) ≡ 72 ⌝ }
     ensures { λ r. ⌜ r ≡ def.halvesFrom (now (board .entry)) 20 8 ⌝ }
 {
-    let h0 = read16(board, 20);
-    let h1 = read16(board, 22);
-    let h2 = read16(board, 24);
-    let h3 = read16(board, 26);
-    let h4 = read16(board, 28);
-    let h5 = read16(board, 30);
-    let h6 = read16(board, 32);
-    let h7 = read16(board, 34);
-    [h0, h1, h2, h3, h4, h5, h6, h7]
+    [
+        read16(board, 20),
+        read16(board, 22),
+        read16(board, 24),
+        read16(board, 26),
+        read16(board, 28),
+        read16(board, 30),
+        read16(board, 32),
+        read16(board, 34),
+    ]
 }
 
 pub fn load_contents(board: &[u8]) -> Contents
@@ -106,6 +107,7 @@ fn sound_row(p: PrefetchBuffer) -> bool
     in_window(p.head_addr) & in_window(p.next_addr - 2)
 }
 
+// What prefetch off asks.
 fn is_zero(p: PrefetchBuffer) -> bool
     ensures { λ r. ⌜ r ≡ def.isZero p ⌝ }
 {
@@ -118,16 +120,19 @@ fn is_zero(p: PrefetchBuffer) -> bool
         & (p.head_addr == 0)
 }
 
+// The count comes first: the sum of the row must not wrap.
 fn sound_prefetch(p: PrefetchBuffer) -> bool
     ensures { λ r. ⌜ r ≡ def.soundPrefetch p ⌝ }
 {
     if 8 < p.count {
         return false;
     }
-    let beat = sound_beat(p);
-    let row = sound_row(p);
-    let zero = is_zero(p);
-    (p.head <= 7) & (p.wait_left <= 9) & (p.next_addr % 2 == 0) & beat & row & (p.enabled | zero)
+    (p.head <= 7)
+        & (p.wait_left <= 9)
+        & (p.next_addr % 2 == 0)
+        & sound_beat(p)
+        & sound_row(p)
+        & (p.enabled | is_zero(p))
 }
 
 // Zero bytes are zero, flags are 0 or 1, and WAITCNT bit 13 is clear.
@@ -151,9 +156,7 @@ pub fn is_sound(board: &[u8]) -> bool
         return false;
     }
     let clock = load_clock(board);
-    let prefetch = clock.prefetch;
-    let bytes = sound_bytes(board);
-    bytes & sound_prefetch(prefetch)
+    sound_bytes(board) & sound_prefetch(clock.prefetch)
 }
 
 // ---- writing
@@ -163,13 +166,12 @@ fn put_flags(out: &mut [u8], clock: Clock)
     requires { ⌜ length (now out) ≡ 8 ⌝ }
     ensures { λ _. ⌜ now (out .exit) ≡ encoded (def.flagFields clock) ⌝ }
 {
-    let p = clock.prefetch;
     put16(&mut out[0..2], clock.waitcnt);
     out[2] = bit(clock.force_next_fetch_n);
-    out[3] = (p.head % 256) as u8;
-    out[4] = (p.count % 256) as u8;
-    out[5] = bit(p.filling);
-    out[6] = bit(p.first_beat);
+    out[3] = (clock.prefetch.head % 256) as u8;
+    out[4] = (clock.prefetch.count % 256) as u8;
+    out[5] = bit(clock.prefetch.filling);
+    out[6] = bit(clock.prefetch.first_beat);
     out[7] = 0;
 }
 
@@ -178,8 +180,7 @@ fn put_words(out: &mut [u8], p: PrefetchBuffer)
     requires { ⌜ length (now out) ≡ 12 ⌝ }
     ensures { λ _. ⌜ now (out .exit) ≡ encoded (def.wordFields p) ⌝ }
 {
-    put32(&mut out[0..4], p.wait_left);
-    put32(&mut out[4..8], p.next_addr);
+    put_pair(&mut out[0..8], p.wait_left, p.next_addr);
     put32(&mut out[8..12], p.head_addr);
 }
 
@@ -188,9 +189,8 @@ fn put_clock(out: &mut [u8], clock: Clock)
     requires { ⌜ length (now out) ≡ 20 ⌝ }
     ensures { λ _. ⌜ now (out .exit) ≡ encoded (def.clockFields clock) ⌝ }
 {
-    let prefetch = clock.prefetch;
     put_flags(&mut out[0..8], clock);
-    put_words(&mut out[8..20], prefetch);
+    put_words(&mut out[8..20], clock.prefetch);
 }
 
 // Bytes 20 to 35.
@@ -207,13 +207,13 @@ fn put_halves(out: &mut [u8], halves: [u16; 8])
 }
 
 // Bytes 44 to 67.
-fn put_counters(out: &mut [u8], d: Contents)
+fn put_counters(out: &mut [u8], vram: u64, oam: u64, palette: u64)
     requires { ⌜ length (now out) ≡ 24 ⌝ }
-    ensures { λ _. ⌜ now (out .exit) ≡ bytes 8 (d .«vram_write_count») ++ (bytes 8 (d .«oam_write_count») ++ bytes 8 (d .«palette_write_count»)) ⌝ }
+    ensures { λ _. ⌜ now (out .exit) ≡ bytes 8 vram ++ (bytes 8 oam ++ bytes 8 palette) ⌝ }
 {
-    put64(&mut out[0..8], d.vram_write_count);
-    put64(&mut out[8..16], d.oam_write_count);
-    put64(&mut out[16..24], d.palette_write_count);
+    put64(&mut out[0..8], vram);
+    put64(&mut out[8..16], oam);
+    put64(&mut out[16..24], palette);
 }
 
 // Bytes 36 to 71.
@@ -222,7 +222,12 @@ fn put_contents(out: &mut [u8], d: Contents)
     ensures { λ _. ⌜ now (out .exit) ≡ encoded (def.contentsFields d) ⌝ }
 {
     put_pair(&mut out[0..8], d.cpu_pc, d.last_bios_opcode);
-    put_counters(&mut out[8..32], d);
+    put_counters(
+        &mut out[8..32],
+        d.vram_write_count,
+        d.oam_write_count,
+        d.palette_write_count,
+    );
     put32(&mut out[32..36], 0);
 }
 

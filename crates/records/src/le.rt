@@ -1,7 +1,7 @@
 // Numbers in little-endian bytes, read from a slice and written to one.
 ghost use mathlib.Core.Path.{_≡_};
 ghost use mathlib.Core.List.{_++_};
-ghost use Prim.Native.Nat.{_+_, _*_, _≤_, _<_};
+ghost use Prim.Native.Nat.{_+_, _*_, _≤_};
 ghost use lib.ListN.{length};
 ghost use Rattle.model.specs.Base as def;
 
@@ -65,12 +65,12 @@ pub fn put32(out: &mut [u8], v: u32)
 }
 
 // Two words, one behind the other.
-pub fn put_pair(out: &mut [u8], low: u32, high: u32)
+pub fn put_pair(out: &mut [u8], first: u32, second: u32)
     requires { ⌜ length (now out) ≡ 8 ⌝ }
-    ensures { λ _. ⌜ now (out .exit) ≡ def.bytes 4 low ++ def.bytes 4 high ⌝ }
+    ensures { λ _. ⌜ now (out .exit) ≡ def.bytes 4 first ++ def.bytes 4 second ⌝ }
 {
-    put32(&mut out[0..4], low);
-    put32(&mut out[4..8], high);
+    put32(&mut out[0..4], first);
+    put32(&mut out[4..8], second);
 }
 
 pub fn put64(out: &mut [u8], v: u64)

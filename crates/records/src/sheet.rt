@@ -115,8 +115,7 @@ fn size_fits(kind: u8, size: u8) -> bool
 pub fn kind_fault(r: SheetRecord) -> bool
     ensures { λ x. ⌜ x ≡ def.kindFault r ⌝ }
 {
-    let fits = size_fits(r.kind, r.size);
-    !((1 <= r.kind) & (r.kind <= 9) & fits)
+    !((1 <= r.kind) & (r.kind <= 9) & size_fits(r.kind, r.size))
 }
 
 // A fault that the second pass looks for: the other fields.

@@ -12,7 +12,9 @@ byte-in-requires c κs = search needs
 
 returns : tie.Need-returns
 unfolding modeOf
-returns c = simp (c .byte-in .ensures, c .before .io .ensures .base, c .before .io .ensures .size)
+returns c =
+    let p = c .before .io .ensures in
+    simp (c .byte-in .ensures, p .base, p .size)
 
 pub dispcnt-bg-mode-spec : {M : Type 1} → statement M
 dispcnt-bg-mode-spec = tie.close (tie.spec io-requires byte-in-requires returns)

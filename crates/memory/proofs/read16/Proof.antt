@@ -1,5 +1,4 @@
 -- `read16` meets its contract: the branch decides the definition's test. Assumes nothing.
-use mathlib.Core.Path.{_∙_, sym}
 use Rattle.model.specs.Load.{load16}
 use Rattle.memory.proofs.Arms.{sram-test}
 use borrow.Author.Needs.{needs}
@@ -23,7 +22,10 @@ mul-result c = search needs
 
 returns : tie.Need-returns
 unfolding load16
-returns c = simp (sram-test (c .before .before .before .before .before .before .before .args .addr) (c .before .before .decode .ensures) (c .before .is-sram .ensures) (c .if1 .taken), c .before .before .before .read8 .ensures)
+returns c =
+    let a = c .before .before .before .before .before .before .before .args .addr in
+    let t = sram-test a (c .before .before .decode .ensures) (c .before .is-sram .ensures) (c .if1 .taken) in
+    simp (t, c .before .before .before .read8 .ensures)
 
 wrapping-add-u32-requires : tie.Need-wrapping-add-u32-requires
 wrapping-add-u32-requires c κs = search needs
@@ -42,7 +44,11 @@ add-result c = search needs
 
 returns-2 : tie.Need-returns-2
 unfolding load16
-returns-2 c = simp (sram-test (c .before .before .before .before .before .before .before .before .before .args .addr) (c .before .before .before .before .decode .ensures) (c .before .before .before .is-sram .ensures) (c .before .before .if1 .left), c .before .before .before .before .before .read8 .ensures, c .read82 .ensures, c .before .wrapping-add-u32 .ensures)
+returns-2 c =
+    let d = c .before .before in
+    let a = c .before .before .before .before .before .before .before .before .before .args .addr in
+    let t = sram-test a (d .before .before .decode .ensures) (d .before .is-sram .ensures) (d .if1 .left) in
+    simp (t, d .before .before .before .read8 .ensures, c .read82 .ensures, c .before .wrapping-add-u32 .ensures)
 
 pub read16-spec : {M : Type 1} → statement M
 read16-spec =

@@ -1,5 +1,4 @@
 -- `read32` meets its contract: the branch decides the definition's test. Assumes nothing.
-use mathlib.Core.Path.{_∙_, sym}
 use Rattle.model.specs.Load.{load32}
 use Rattle.memory.proofs.Arms.{sram-test}
 use borrow.Author.Needs.{needs}
@@ -23,7 +22,11 @@ mul-result c = search needs
 
 returns : tie.Need-returns
 unfolding load32
-returns c = simp (sram-test (c .before .before .before .before .before .before .before .args .addr) (c .before .before .before .decode .ensures) (c .before .before .is-sram .ensures) (c .before .if1 .taken), c .read8 .ensures)
+returns c =
+    let d = c .before in
+    let a = c .before .before .before .before .before .before .before .args .addr in
+    let t = sram-test a (d .before .before .decode .ensures) (d .before .is-sram .ensures) (d .if1 .taken) in
+    simp (t, c .read8 .ensures)
 
 read16-requires : tie.Need-read16-requires
 read16-requires c κs = search needs
@@ -48,7 +51,11 @@ add-result c = search needs
 
 returns-2 : tie.Need-returns-2
 unfolding load32
-returns-2 c = simp (sram-test (c .before .before .before .before .before .before .before .before .before .args .addr) (c .before .before .before .before .before .decode .ensures) (c .before .before .before .before .is-sram .ensures) (c .before .before .before .if1 .left), c .before .before .read16 .ensures, c .read162 .ensures, c .before .wrapping-add-u32 .ensures)
+returns-2 c =
+    let d = c .before .before .before in
+    let a = c .before .before .before .before .before .before .before .before .before .args .addr in
+    let t = sram-test a (d .before .before .decode .ensures) (d .before .is-sram .ensures) (d .if1 .left) in
+    simp (t, c .before .before .read16 .ensures, c .read162 .ensures, c .before .wrapping-add-u32 .ensures)
 
 pub read32-spec : {M : Type 1} → statement M
 read32-spec =

@@ -133,61 +133,114 @@ enum-told-14 c = search needs
 
 returns : tie.Need-returns
 unfolding load8
-returns c = c .read-bios8 .ensures ∙ simp (sym (c .before .before .before .decode .ensures) ∙ c .before .enum-told .given .1)
+returns c =
+    let d = c .before in
+    let e = sym (d .before .before .decode .ensures) ∙ d .enum-told .given .1 in
+    c .read-bios8 .ensures ∙ simp e
 
 returns-2 : tie.Need-returns-2
 unfolding load8
-returns-2 c = simp (sym (c .before .before .decode .ensures) ∙ c .enum-told2 .given .1)
+returns-2 c =
+    let e = sym (c .before .before .decode .ensures) ∙ c .enum-told2 .given .1 in
+    simp e
 
 returns-3 : tie.Need-returns-3
 unfolding load8
-returns-3 c = c .byte-in .ensures ∙ simp (sym (c .before .before .before .before .before .decode .ensures) ∙ c .before .before .before .enum-told3 .given .1, c .before .before .ewram .ensures .base, c .before .before .ewram .ensures .size, c .before .ewram-offset .ensures)
+returns-3 c =
+    let d = c .before .before .before in
+    let e = sym (d .before .before .decode .ensures) ∙ d .enum-told3 .given .1 in
+    let p = c .before .before .ewram .ensures in
+    let o = c .before .ewram-offset .ensures in
+    c .byte-in .ensures ∙ simp (e, p .base, p .size, o)
 
 returns-4 : tie.Need-returns-4
 unfolding load8
-returns-4 c = c .byte-in2 .ensures ∙ simp (sym (c .before .before .before .before .before .decode .ensures) ∙ c .before .before .before .enum-told4 .given .1, c .before .before .iwram .ensures .base, c .before .before .iwram .ensures .size, c .before .iwram-offset .ensures)
+returns-4 c =
+    let d = c .before .before .before in
+    let e = sym (d .before .before .decode .ensures) ∙ d .enum-told4 .given .1 in
+    let p = c .before .before .iwram .ensures in
+    let o = c .before .iwram-offset .ensures in
+    c .byte-in2 .ensures ∙ simp (e, p .base, p .size, o)
 
 returns-5 : tie.Need-returns-5
 unfolding load8
 returns-5 c =
-    c .byte-in3 .ensures
-    ∙ simp (sym (c .before .before .before .before .before .before .before .before .decode .ensures) ∙ c .before .before .before .before .before .before .enum-told5 .given .1, c .before .io .ensures .base, c .before .io .ensures .size, sym (c .before .before .before .before .before .io-offset .ensures) ∙ c .before .before .before .offset .given .1)
+    let d = c .before .before .before .before .before .before in
+    let e = sym (d .before .before .decode .ensures) ∙ d .enum-told5 .given .1 in
+    let o = c .before .before .before .before .before .io-offset .ensures in
+    let at = sym o ∙ c .before .before .before .offset .given .1 in
+    let p = c .before .io .ensures in
+    c .byte-in3 .ensures ∙ simp (e, at, p .base, p .size)
 
 returns-6 : tie.Need-returns-6
 unfolding load8
-returns-6 c = simp (sym (c .before .before .before .before .before .decode .ensures) ∙ c .before .before .before .enum-told5 .given .1, sym (c .before .before .io-offset .ensures) ∙ c .enum-told6 .given .1)
+returns-6 c =
+    let d = c .before .before .before in
+    let e = sym (d .before .before .decode .ensures) ∙ d .enum-told5 .given .1 in
+    let o = c .before .before .io-offset .ensures in
+    let no = sym o ∙ c .enum-told6 .given .1 in
+    simp (e, no)
 
 returns-7 : tie.Need-returns-7
 unfolding load8
-returns-7 c = c .byte-in4 .ensures ∙ simp (sym (c .before .before .before .before .before .decode .ensures) ∙ c .before .before .before .enum-told7 .given .1, c .before .before .palette .ensures .base, c .before .before .palette .ensures .size, c .before .palette-offset .ensures)
+returns-7 c =
+    let d = c .before .before .before in
+    let e = sym (d .before .before .decode .ensures) ∙ d .enum-told7 .given .1 in
+    let p = c .before .before .palette .ensures in
+    let o = c .before .palette-offset .ensures in
+    c .byte-in4 .ensures ∙ simp (e, p .base, p .size, o)
 
 returns-8 : tie.Need-returns-8
 unfolding load8
-returns-8 c = c .byte-in5 .ensures ∙ simp (sym (c .before .before .before .before .before .decode .ensures) ∙ c .before .before .before .enum-told8 .given .1, c .before .before .vram .ensures .base, c .before .before .vram .ensures .size, c .before .vram-offset .ensures)
+returns-8 c =
+    let d = c .before .before .before in
+    let e = sym (d .before .before .decode .ensures) ∙ d .enum-told8 .given .1 in
+    let p = c .before .before .vram .ensures in
+    let o = c .before .vram-offset .ensures in
+    c .byte-in5 .ensures ∙ simp (e, p .base, p .size, o)
 
 returns-9 : tie.Need-returns-9
 unfolding load8
-returns-9 c = c .byte-in6 .ensures ∙ simp (sym (c .before .before .before .before .before .decode .ensures) ∙ c .before .before .before .enum-told9 .given .1, c .before .before .oam .ensures .base, c .before .before .oam .ensures .size, c .before .oam-offset .ensures)
+returns-9 c =
+    let d = c .before .before .before in
+    let e = sym (d .before .before .decode .ensures) ∙ d .enum-told9 .given .1 in
+    let p = c .before .before .oam .ensures in
+    let o = c .before .oam-offset .ensures in
+    c .byte-in6 .ensures ∙ simp (e, p .base, p .size, o)
 
 returns-10 : tie.Need-returns-10
 unfolding load8
-returns-10 c = c .read-slice .ensures ∙ simp (sym (c .before .before .before .before .decode .ensures) ∙ c .before .before .enum-told10 .given .1, c .before .rom-offset .ensures)
+returns-10 c =
+    let d = c .before .before in
+    let e = sym (d .before .before .decode .ensures) ∙ d .enum-told10 .given .1 in
+    c .read-slice .ensures ∙ simp (e, c .before .rom-offset .ensures)
 
 returns-11 : tie.Need-returns-11
 unfolding load8
-returns-11 c = c .read-slice2 .ensures ∙ simp (sym (c .before .before .before .before .decode .ensures) ∙ c .before .before .enum-told11 .given .1, c .before .rom-offset2 .ensures)
+returns-11 c =
+    let d = c .before .before in
+    let e = sym (d .before .before .decode .ensures) ∙ d .enum-told11 .given .1 in
+    c .read-slice2 .ensures ∙ simp (e, c .before .rom-offset2 .ensures)
 
 returns-12 : tie.Need-returns-12
 unfolding load8
-returns-12 c = c .read-slice3 .ensures ∙ simp (sym (c .before .before .before .before .decode .ensures) ∙ c .before .before .enum-told12 .given .1, c .before .rom-offset3 .ensures)
+returns-12 c =
+    let d = c .before .before in
+    let e = sym (d .before .before .decode .ensures) ∙ d .enum-told12 .given .1 in
+    c .read-slice3 .ensures ∙ simp (e, c .before .rom-offset3 .ensures)
 
 returns-13 : tie.Need-returns-13
 unfolding load8
-returns-13 c = c .read-sram8 .ensures ∙ simp (sym (c .before .before .before .decode .ensures) ∙ c .before .enum-told13 .given .1)
+returns-13 c =
+    let d = c .before in
+    let e = sym (d .before .before .decode .ensures) ∙ d .enum-told13 .given .1 in
+    c .read-sram8 .ensures ∙ simp e
 
 returns-14 : tie.Need-returns-14
 unfolding load8
-returns-14 c = simp (sym (c .before .before .decode .ensures) ∙ c .enum-told14 .given .1)
+returns-14 c =
+    let e = sym (c .before .before .decode .ensures) ∙ c .enum-told14 .given .1 in
+    simp e
 
 pub read8-spec : {M : Type 1} → statement M
 read8-spec =

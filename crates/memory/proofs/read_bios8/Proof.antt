@@ -1,5 +1,5 @@
 -- `read_bios8` meets its contract: each arm decides the definition's test. Assumes nothing.
-use mathlib.Core.Path.{_≡_, _∙_, sym}
+use mathlib.Core.Path.{_∙_, sym}
 use Rattle.model.specs.Load.{biosByte}
 use Rattle.memory.proofs.Arms.{latched, unlatched}
 use borrow.Author.Needs.{needs}
@@ -24,13 +24,17 @@ read-slice-requires c κs = search needs
 returns : tie.Need-returns
 unfolding biosByte
 returns c =
-    let p = latched (c .before .before .before .before .before .before .args .pc) (c .before .before .before .before .before .before .args .latch) (sym (c .before .before .before .before .bios-protect-read .ensures) ∙ c .before .before .protect .given .1) in
+    let a = c .before .before .before .before .before .before .args in
+    let r = c .before .before .before .before .bios-protect-read .ensures in
+    let p = latched (a .pc) (a .latch) (sym r ∙ c .before .before .protect .given .1) in
     c .bios-protect-byte .ensures ∙ simp (p .0, p .1)
 
 returns-2 : tie.Need-returns-2
 unfolding biosByte
 returns-2 c =
-    let p = unlatched (c .before .before .before .before .before .args .pc) (c .before .before .before .before .before .args .latch) (sym (c .before .before .before .bios-protect-read .ensures) ∙ c .before .enum-told .given .1) in
+    let a = c .before .before .before .before .before .args in
+    let r = c .before .before .before .bios-protect-read .ensures in
+    let p = unlatched (a .pc) (a .latch) (sym r ∙ c .before .enum-told .given .1) in
     c .read-slice .ensures ∙ simp p
 
 pub read-bios8-spec : {M : Type 1} → statement M

@@ -24,7 +24,10 @@ byte-in-requires c κs = search needs
 
 returns-2 : tie.Need-returns-2
 unfolding sramByte
-returns-2 c = c .byte-in .ensures ∙ simp (c .before .before .sram .ensures .base, c .before .before .sram .ensures .size, c .before .sram-window-offset .ensures, ne-eqb _ _ (c .before .before .before .if1 .left))
+returns-2 c =
+    let p = c .before .before .sram .ensures in
+    let o = c .before .sram-window-offset .ensures in
+    c .byte-in .ensures ∙ simp (p .base, p .size, o, ne-eqb _ _ (c .before .before .before .if1 .left))
 
 pub read-sram8-spec : {M : Type 1} → statement M
 read-sram8-spec =

@@ -35,7 +35,10 @@ same-length : tie.Need-same-length
 same-length c = search needs
 
 returns : tie.Need-returns
-returns c = (c .before .before .write8 .ensures .0 ∙ simp (c .before .before .before .before .enum-told .given .1), c .before .before .write8 .ensures .1 ∙ simp (c .before .before .before .before .enum-told .given .1))
+returns c =
+    let z = c .before .before .before .before .enum-told .given .1 in
+    let w = c .before .before .write8 .ensures in
+    (w .0 ∙ simp z, w .1 ∙ simp z)
 
 same-length-2 : tie.Need-same-length-2
 same-length-2 c = search needs
@@ -44,8 +47,9 @@ returns-2 : tie.Need-returns-2
 returns-2 c =
     let a = c .before .before .before .before .before .before .before .args in
     let z = c .before .before .before .before .enum-told2 .given .1 in
+    let w = c .before .before .write16 .ensures in
     let n = any-mode Half refl 0 (modeOf (a .lengths) (a .store .now)) (target (a .lengths) (a .addr)) in
-    (c .before .before .write16 .ensures .0 ∙ simp (z, half-low), c .before .before .write16 .ensures .1 ∙ n ∙ simp z)
+    (w .0 ∙ simp (z, half-low), w .1 ∙ n ∙ simp z)
 
 same-length-3 : tie.Need-same-length-3
 same-length-3 c = search needs
@@ -54,8 +58,9 @@ returns-3 : tie.Need-returns-3
 returns-3 c =
     let a = c .before .before .before .before .before .before .before .args in
     let z = c .before .before .before .before .enum-told3 .given .1 in
+    let w = c .before .before .write32 .ensures in
     let n = any-mode Word refl 0 (modeOf (a .lengths) (a .store .now)) (target (a .lengths) (a .addr)) in
-    (c .before .before .write32 .ensures .0 ∙ simp z, c .before .before .write32 .ensures .1 ∙ n ∙ simp z)
+    (w .0 ∙ simp z, w .1 ∙ n ∙ simp z)
 
 pub write-spec : {M : Type 1} → statement M
 write-spec =

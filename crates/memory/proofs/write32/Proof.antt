@@ -1,5 +1,5 @@
 -- `write32` meets its contract: one byte on the chip, else two halfword stores. Assumes nothing.
-use mathlib.Core.Path.{_≡_, _∙_}
+use mathlib.Core.Path.{_∙_}
 use native.Mathlib.Omega.{arith}
 use Rattle.model.specs.Base.{lowered}
 use Rattle.model.specs.Region.{decode}
@@ -29,7 +29,9 @@ returns : tie.Need-returns
 unfolding target puts32
 returns c =
     let a = c .before .before .before .before .before .before .before .before .before .args .addr in
-    let e = sram-only (decode a) (sram-test a (c .before .before .before .before .before .before .before .decode .ensures) (c .before .before .before .before .before .before .is-sram .ensures) (c .before .before .before .before .before .if1 .taken)) in
+    let d = c .before .before .before .before .before in
+    let t = sram-test a (d .before .before .decode .ensures) (d .before .is-sram .ensures) (d .if1 .taken) in
+    let e = sram-only (decode a) t in
     (c .before .before .write-sram8 .ensures ∙ simp (e, c .before .before .before .before .lane .ensures), simp e)
 
 mul-aligned : tie.Need-mul-aligned
@@ -52,9 +54,10 @@ write16-requires-2 c κs = search needs
 
 add-result : tie.Need-add-result
 add-result c =
-    let l = c .before .before .before .before .before .before .before .before .before .before .before .before .before .args .lengths in
-    let low = half-counts-once 0 (target l (lowered 4 (c .before .before .before .before .before .before .before .before .before .before .before .before .before .args .addr))) in
-    let high = half-counts-once 0 (target l (c .before .before .before .before .before .before .before .before .wrapping-add-u32 .result)) in
+    let a = c .before .before .before .before .before .before .before .before .before .before .before .before .before .args in
+    let low = half-counts-once 0 (target (a .lengths) (lowered 4 (a .addr))) in
+    let next = c .before .before .before .before .before .before .before .before .wrapping-add-u32 .result in
+    let high = half-counts-once 0 (target (a .lengths) next) in
     omega (arith, c .before .before .before .before .before .before .write16 .ensures .1, c .before .before .write162 .ensures .1)
 
 same-length-2 : tie.Need-same-length-2
@@ -64,11 +67,14 @@ returns-2 : tie.Need-returns-2
 unfolding putsPair
 returns-2 c =
     let a = c .before .before .before .before .before .before .before .before .before .before .before .before .before .args in
-    let pair = word-pair (a .lengths) (a .addr) (a .value) (sram-test (a .addr) (c .before .before .before .before .before .before .before .before .before .before .before .decode .ensures) (c .before .before .before .before .before .before .before .before .before .before .is-sram .ensures) (c .before .before .before .before .before .before .before .before .before .if1 .left)) in
-    let count = word-count (a .lengths) 0 0 (a .addr) (omega arith) in (
-      c .before .before .write162 .ensures .0 ∙ simp (pair, c .before .before .before .before .before .before .write16 .ensures .0, c .before .before .before .before .before .before .before .before .wrapping-add-u32 .ensures, landed-append),
-      simp (count, c .before .before .before .before .before .before .write16 .ensures .1, c .before .before .write162 .ensures .1, c .before .before .before .before .before .before .before .before .wrapping-add-u32 .ensures),
-    )
+    let d = c .before .before .before .before .before .before .before .before .before in
+    let t = sram-test (a .addr) (d .before .before .decode .ensures) (d .before .is-sram .ensures) (d .if1 .left) in
+    let low = c .before .before .before .before .before .before .write16 .ensures in
+    let high = c .before .before .write162 .ensures in
+    let next = c .before .before .before .before .before .before .before .before .wrapping-add-u32 .ensures in
+    let pair = word-pair (a .lengths) (a .addr) (a .value) t in
+    let count = word-count (a .lengths) 0 0 (a .addr) (omega arith) in
+    (high .0 ∙ simp (pair, low .0, next, landed-append), simp (count, low .1, high .1, next))
 
 pub write32-spec : {M : Type 1} → statement M
 write32-spec =

@@ -26,7 +26,8 @@ enum-told-3 c = search needs
 
 returns : tie.Need-returns
 returns c =
-    let f = filled (c .before .before .before .before .args .target) (c .before .before .before .before .args .value) (c .before .before .resolve-strb .ensures) (c .enum-told .given .1) in
+    let a = c .before .before .before .before .args in
+    let f = filled (a .target) (a .value) (c .before .before .resolve-strb .ensures) (c .enum-told .given .1) in
     (simp f, simp f)
 
 same-length : tie.Need-same-length
@@ -34,18 +35,22 @@ same-length c = search needs
 
 returns-2 : tie.Need-returns-2
 returns-2 c =
-    let f = filled (c .before .before .before .before .before .before .before .before .before .args .target) (c .before .before .before .before .before .before .before .before .before .args .value) (c .before .before .before .before .before .before .before .resolve-strb .ensures) (c .before .before .before .before .before .action .given .1) in
-    let h = filled-with (c .before .before .before .before .before .before .before .before .before .args .target) (c .before .before .before .before .before .before .before .before .before .args .value) (omega arith) (c .before .before .before .before .before .before .before .resolve-strb .ensures) (c .before .before .before .before .before .action .given .1) in
+    let a = c .before .before .before .before .before .before .before .before .before .args in
+    let r = c .before .before .before .before .before .before .before .resolve-strb .ensures in
+    let f = filled (a .target) (a .value) r (c .before .before .before .before .before .action .given .1) in
+    let h = filled-with (a .target) (a .value) (omega arith) r (c .before .before .before .before .before .action .given .1) in
     (c .before .before .put-half .ensures ∙ simp (f, h .0, h .1), simp f)
 
 returns-3 : tie.Need-returns-3
 returns-3 c =
-    let f = filled (c .before .before .before .before .args .target) (c .before .before .before .before .args .value) (c .before .before .resolve-strb .ensures) (c .enum-told2 .given .1) in
+    let a = c .before .before .before .before .args in
+    let f = filled (a .target) (a .value) (c .before .before .resolve-strb .ensures) (c .enum-told2 .given .1) in
     (simp f, simp f)
 
 returns-4 : tie.Need-returns-4
 returns-4 c =
-    let f = filled (c .before .before .before .before .args .target) (c .before .before .before .before .args .value) (c .before .before .resolve-strb .ensures) (c .enum-told3 .given .1) in
+    let a = c .before .before .before .before .args in
+    let f = filled (a .target) (a .value) (c .before .before .resolve-strb .ensures) (c .enum-told3 .given .1) in
     (simp f, simp f)
 
 pub write8-video-spec : {M : Type 1} → statement M

@@ -15,7 +15,9 @@ dispcnt-bg-mode-requires : tie.Need-dispcnt-bg-mode-requires
 dispcnt-bg-mode-requires c κs = search needs
 
 cast-classify-vram-offset : tie.Need-cast-classify-vram-offset
-cast-classify-vram-offset c = omega (arith, c .before .before .vram-offset .ensures, vram-within (c .before .before .before .before .args .addr))
+cast-classify-vram-offset c =
+    let a = c .before .before .before .before .args in
+    omega (arith, c .before .before .vram-offset .ensures, vram-within (a .addr))
 
 classify-vram-offset-requires : tie.Need-classify-vram-offset-requires
 classify-vram-offset-requires c κs = search needs
@@ -31,8 +33,12 @@ same-length c = search needs
 
 returns : tie.Need-returns
 returns c =
-    let m = modeOf (c .before .before .before .before .before .before .before .args .lengths) (c .before .before .before .before .before .before .before .args .store .now) in
-    let k = vram-class m (c .before .before .before .before .before .before .before .args .addr) (c .before .before .before .before .before .vram-offset .ensures) (c .before .before .before .dispcnt-bg-mode .ensures) (c .before .before .classify-vram-offset .ensures) (c .enum-told .given .1) in
+    let a = c .before .before .before .before .before .before .before .args in
+    let d = c .before .before in
+    let m = modeOf (a .lengths) (a .store .now) in
+    let o = c .before .before .before .before .before .vram-offset .ensures in
+    let g = d .before .dispcnt-bg-mode .ensures in
+    let k = vram-class m (a .addr) o g (d .classify-vram-offset .ensures) (c .enum-told .given .1) in
     let z : _≡_ {A = Bool} true false = cc k in
     (cc, cc)
 
@@ -47,9 +53,15 @@ same-length-2 c = search needs
 
 returns-2 : tie.Need-returns-2
 returns-2 c =
-    let m = modeOf (c .before .before .before .before .before .before .before .before .before .before .before .before .before .args .lengths) (c .before .before .before .before .before .before .before .before .before .before .before .before .before .args .store .now) in
-    let f = vram-fills m (c .before .before .before .before .before .before .before .before .before .before .before .before .before .args .addr) (c .before .before .before .before .before .before .before .before .before .before .before .vram-offset .ensures) (c .before .before .before .before .before .before .before .before .before .dispcnt-bg-mode .ensures) (c .before .before .before .before .before .before .before .before .classify-vram-offset .ensures) (c .before .before .before .before .before .before .class .given .1) in
-    (c .before .before .write8-video .ensures .0 ∙ simp (f, c .before .before .before .before .vram .ensures .base, c .before .before .before .before .vram .ensures .size, c .before .before .before .before .before .before .before .before .before .before .before .vram-offset .ensures), c .before .before .write8-video .ensures .1 ∙ simp f)
+    let a = c .before .before .before .before .before .before .before .before .before .before .before .before .before .args in
+    let m = modeOf (a .lengths) (a .store .now) in
+    let d = c .before .before .before .before .before .before .before .before in
+    let o = c .before .before .before .before .before .before .before .before .before .before .before .vram-offset .ensures in
+    let g = d .before .dispcnt-bg-mode .ensures in
+    let f = vram-fills m (a .addr) o g (d .classify-vram-offset .ensures) (c .before .before .before .before .before .before .class .given .1) in
+    let p = c .before .before .before .before .vram .ensures in
+    let w = c .before .before .write8-video .ensures in
+    (w .0 ∙ simp (f, p .base, p .size, o), w .1 ∙ simp f)
 
 pub write8-vram-spec : {M : Type 1} → statement M
 write8-vram-spec =

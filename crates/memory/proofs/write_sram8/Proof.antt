@@ -17,7 +17,9 @@ same-length : tie.Need-same-length
 same-length c = search needs
 
 returns : tie.Need-returns
-returns c = c .before .before .put .ensures ∙ simp (c .before .before .before .before .sram .ensures .base, c .before .before .before .before .sram .ensures .size, c .before .before .before .sram-window-offset .ensures)
+returns c =
+    let p = c .before .before .before .before .sram .ensures in
+    c .before .before .put .ensures ∙ simp (p .base, p .size, c .before .before .before .sram-window-offset .ensures)
 
 pub write-sram8-spec : {M : Type 1} → statement M
 write-sram8-spec =

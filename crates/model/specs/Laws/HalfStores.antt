@@ -1,9 +1,9 @@
--- Wide stores by their parts: a halfword store outside video memory and SRAM is two byte stores at the aligned address, each decoded
--- by itself, as the Rust does it; a word store counts as its two halfword stores; and what lands of a list lands part by part.
+-- Wide stores by their parts: outside video memory and SRAM a halfword store is two byte stores at the aligned address, each decoded
+-- by itself, as the Rust does it; a word store lands and counts as its two halfword stores; the display mode matters to neither.
 use mathlib.Core.Path.{_≡_, refl, sym, _∙_, ap, ap₂}
 use mathlib.Core.Bool.{Bool, true, false, not, _&&_, true≢false, false≢true}
 use mathlib.Core.List.{List, [], _∷_, _++_}
-use Prim.Native.Nat.{ℕ, _+_, _-_, _*_, _/_, _%_, _^_, _≤_, _<_}
+use Prim.Native.Nat.{ℕ, _+_, _-_, _/_, _%_, _^_, _≤_, _<_}
 use native.Mathlib.Omega.{arith}
 use lib.ListN.{set}
 use lib.Dec.{eqb, ltb, leb}
@@ -30,25 +30,24 @@ landed-append s (p ∷ ps) qs = landed-append (set s (p .place) (p .byte)) ps qs
 
 -- ---- addresses of one aligned word
 
-ltb-case : (x y k : ℕ) (t : Bool) → ltb x k ≡ t → (x < k → y < k) → (k ≤ x → k ≤ y) → ltb y k ≡ t
-ltb-case x y k true e f g = lt-ltb y k (f (ltb-true x k e))
-ltb-case x y k false e f g = le-ltb y k (g (ltb-false x k e))
+alike : (t u : Bool) → (t ≡ true → u ≡ true) → (t ≡ false → u ≡ false) → u ≡ t
+alike true u f g = f refl
+alike false u f g = g refl
 
+-- two numbers on the same side of a bound test alike
 same-ltb : (x y k : ℕ) → (x < k → y < k) → (k ≤ x → k ≤ y) → ltb y k ≡ ltb x k
-same-ltb x y k f g = ltb-case x y k (ltb x k) refl f g
-
-leb-case : (x y k : ℕ) (t : Bool) → leb k x ≡ t → (x < k → y < k) → (k ≤ x → k ≤ y) → leb k y ≡ t
-leb-case x y k true e f g = le-leb k y (g (leb-true k x e))
-leb-case x y k false e f g = lt-leb k y (f (leb-false k x e))
+same-ltb x y k f g =
+    alike (ltb x k) (ltb y k) (λ e. lt-ltb y k (f (ltb-true x k e))) (λ e. le-ltb y k (g (ltb-false x k e)))
 
 same-leb : (x y k : ℕ) → (x < k → y < k) → (k ≤ x → k ≤ y) → leb k y ≡ leb k x
-same-leb x y k f g = leb-case x y k (leb k x) refl f g
+same-leb x y k f g =
+    alike (leb k x) (leb k y) (λ e. le-leb k y (g (leb-true k x e))) (λ e. lt-leb k y (f (leb-false k x e)))
 
 near : (a b : ℕ) → b ≤ 3 → decode (lowered 4 a + b) ≡ decode a
 unfolding decode
 near a b h =
     let p : page (lowered 4 a + b) ≡ page a = omega arith in
-    let t : ltb (lowered 4 a + b) 0x4000 ≡ ltb a 0x4000 = same-ltb a (lowered 4 a + b) 0x4000 (λ q. omega arith) (λ q. omega arith) in
+    let t = same-ltb a (lowered 4 a + b) 0x4000 (λ q. omega arith) (λ q. omega arith) in
     simp (p, t)
 
 -- they lie in one region
@@ -83,20 +82,25 @@ io-tests : (a b : ℕ) → a / 2 ≡ b / 2
 unfolding ioOffset
 io-tests a b h =
     let p : page b ≡ page a = omega arith in
-    let from : leb 0x800 (b % 0x10000) ≡ leb 0x800 (a % 0x10000) = same-leb (a % 0x10000) (b % 0x10000) 0x800 (λ q. omega arith) (λ q. omega arith) in
-    let to : ltb (b % 0x10000) 0x804 ≡ ltb (a % 0x10000) 0x804 = same-ltb (a % 0x10000) (b % 0x10000) 0x804 (λ q. omega arith) (λ q. omega arith) in
-    let once : ltb b 0x0400_0400 ≡ ltb a 0x0400_0400 = same-ltb a b 0x0400_0400 (λ q. omega arith) (λ q. omega arith) in
+    let from = same-leb (a % 0x10000) (b % 0x10000) 0x800 (λ q. omega arith) (λ q. omega arith) in
+    let to = same-ltb (a % 0x10000) (b % 0x10000) 0x804 (λ q. omega arith) (λ q. omega arith) in
+    let once = same-ltb a b 0x0400_0400 (λ q. omega arith) (λ q. omega arith) in
     simp (p, from, to, once)
 
 io-case : (p : Part) (m n a v : ℕ) (t u w : Bool) → (t ≡ true → 0x0400_0000 ≤ a)
-    → puts8At m (v % 256) (plainAt p (ioAt t u w (lowered 2 a))) ++ puts8At n (v / 256 % 256) (plainAt p (ioAt t u w (lowered 2 a + 1)))
+    → puts8At m (v % 256) (plainAt p (ioAt t u w (lowered 2 a)))
+    ++ puts8At n (v / 256 % 256) (plainAt p (ioAt t u w (lowered 2 a + 1)))
     ≡ puts16At a v (plainAt p (ioAt t u w a))
 io-case p m n a v false u w h = refl
 io-case p m n a v true true w h =
-    at-places p (a % 0x10000) (lowered 2 a % 0x10000) ((lowered 2 a + 1) % 0x10000) (v % 256) (v / 256 % 256) (omega arith) (omega arith)
+    at-places p (a % 0x10000) (lowered 2 a % 0x10000) ((lowered 2 a + 1) % 0x10000) (v % 256) (v / 256 % 256)
+    (omega arith)
+    (omega arith)
 io-case p m n a v true false true h =
     let k = h refl in
-    at-places p (a - 0x0400_0000) (lowered 2 a - 0x0400_0000) (lowered 2 a + 1 - 0x0400_0000) (v % 256) (v / 256 % 256) (omega arith) (omega arith)
+    at-places p (a - 0x0400_0000) (lowered 2 a - 0x0400_0000) (lowered 2 a + 1 - 0x0400_0000) (v % 256) (v / 256 % 256)
+    (omega arith)
+    (omega arith)
 io-case p m n a v true false false h = refl
 
 io-half : (p : Part) (m n a v : ℕ)
@@ -111,13 +115,18 @@ io-half p m n a v =
     ∙ ap (λ (x : Offset). puts16At a v (plainAt p x)) (sym (io-tests a a refl))
 
 half-in : (l : Lengths) (m n a v : ℕ) (r : Region) → byBytes (targetIn l a r) ≡ true
-    → puts8At m (v % 256) (targetIn l (lowered 2 a) r) ++ puts8At n (v / 256 % 256) (targetIn l (lowered 2 a + 1) r) ≡ puts16At a v (targetIn l a r)
+    → puts8At m (v % 256) (targetIn l (lowered 2 a) r) ++ puts8At n (v / 256 % 256) (targetIn l (lowered 2 a + 1) r)
+    ≡ puts16At a v (targetIn l a r)
 half-in l m n a v Bios h = refl
 half-in l m n a v UnusedLow h = refl
 half-in l m n a v Ewram h =
-    at-places (ewramPart l) (ewramOffset a) (ewramOffset (lowered 2 a)) (ewramOffset (lowered 2 a + 1)) (v % 256) (v / 256 % 256) (omega arith) (omega arith)
+    at-places (ewramPart l) (ewramOffset a) (ewramOffset (lowered 2 a)) (ewramOffset (lowered 2 a + 1)) (v % 256) (v / 256 % 256)
+    (omega arith)
+    (omega arith)
 half-in l m n a v Iwram h =
-    at-places (iwramPart l) (iwramOffset a) (iwramOffset (lowered 2 a)) (iwramOffset (lowered 2 a + 1)) (v % 256) (v / 256 % 256) (omega arith) (omega arith)
+    at-places (iwramPart l) (iwramOffset a) (iwramOffset (lowered 2 a)) (iwramOffset (lowered 2 a + 1)) (v % 256) (v / 256 % 256)
+    (omega arith)
+    (omega arith)
 half-in l m n a v Io h = io-half (ioPart l) m n a v
 half-in l m n a v Palette h = absurd (false≢true h)
 half-in l m n a v Vram h = absurd (false≢true h)
@@ -155,6 +164,7 @@ half-low l a v = low-in a v (target l a)
 
 -- ---- a word store by its halfwords
 
+-- one region has the bus of 8 bits
 pub sram-only : (r : Region) → isSram r ≡ true → r ≡ GamePakSram
 sram-only Bios h = absurd (false≢true h)
 sram-only UnusedLow h = absurd (false≢true h)
@@ -189,20 +199,21 @@ pair-in l a v GamePakRomWs2 h = refl
 pair-in l a v GamePakSram h = absurd (true≢false h)
 pair-in l a v UnusedHigh h = refl
 
+-- outside SRAM
 pub word-pair : (l : Lengths) (a v : ℕ) → isSram (decode a) ≡ false → puts32 l a v ≡ putsPair l a v
 unfolding target puts32
 word-pair l a v h = pair-in l a v (decode a) h
 
 -- ---- the counts of wide stores
 
--- a size whose count does not ask whether a halfword is filled
+-- where the count of a size does not ask whether a halfword is filled
 either-fill : (z : AccessSize) → halfwords true z ≡ halfwords false z → (f g : Bool) → halfwords f z ≡ halfwords g z
 either-fill z h true true = refl
 either-fill z h true false = h
 either-fill z h false true = sym h
 either-fill z h false false = refl
 
--- counts alike in every display mode
+-- it is the same in every display mode
 pub any-mode : (z : AccessSize) → halfwords true z ≡ halfwords false z → (m n : ℕ) (t : Target) → videoCount m z t ≡ videoCount n z t
 any-mode z h m n Dropped = refl
 any-mode z h m n (Plain p i) = refl
@@ -248,7 +259,10 @@ count-near l m a b h = simp (same-word a b h) (count-in l m a b (decode a))
 
 -- a word store counts as its two halfword stores
 pub word-count : (l : Lengths) (m n a : ℕ) → a < 2 ^ 32
-    → videoCount m Word (target l a) ≡ videoCount n Half (target l (lowered 4 a)) + videoCount n Half (target l (further 2 (lowered 4 a)))
+    → videoCount m Word (target l a)
+    ≡ videoCount n Half (target l (lowered 4 a)) + videoCount n Half (target l (further 2 (lowered 4 a)))
 word-count l m n a h =
     twice m n (target l a)
-    ∙ ap₂ (λ (x y : ℕ). x + y) (count-near l n a (lowered 4 a) (omega arith)) (count-near l n a (further 2 (lowered 4 a)) (omega arith))
+    ∙ ap₂ (λ (x y : ℕ). x + y)
+    (count-near l n a (lowered 4 a) (omega arith))
+    (count-near l n a (further 2 (lowered 4 a)) (omega arith))

@@ -1,5 +1,5 @@
 -- `video::classify_vram_offset` meets its contract: each branch decides the definition's tests. Assumes nothing.
-use mathlib.Core.Path.{_∙_, sym}
+use mathlib.Core.Path.{sym}
 use borrow.Author.Tests.{le-ltb, lt-ltb, le-leb, lt-leb}
 use Rattle.model.specs.Video.{isObjVram}
 use Rattle.memory.specs.Video.{vramClass}

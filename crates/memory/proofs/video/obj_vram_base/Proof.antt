@@ -1,7 +1,6 @@
 -- `video::obj_vram_base` meets its contract: each branch decides the definition's test. Assumes nothing.
 use borrow.Author.Tests.{le-leb, lt-leb}
 use Rattle.model.specs.Video.{objVramBase}
-use borrow.Author.Needs.{needs}
 use Rattle.memory.proofs.video.obj_vram_base.Statement.{statement}
 use Rattle.memory.proofs.video.obj_vram_base.Tie as tie
 

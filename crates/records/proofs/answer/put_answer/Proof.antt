@@ -1,12 +1,11 @@
 -- `records::answer::put_answer` meets its contract: two words are put, then four bytes are stored. Assumes nothing.
+use mathlib.Core.Path.{_≡_, refl}
 use mathlib.Core.List.{_∷_, []}
-use mathlib.Core.Path.{_≡_, _∙_, refl}
 use Prim.Native.Nat.{_%_}
 use native.Mathlib.Omega.{arith}
 use lib.ListN.{length-set}
 use borrow.Author.Needs.{needs}
-use Rattle.model.specs.Laws.Codec.{flag-byte}
-use Rattle.records.proofs.Laws.{begin, next, stored}
+use Rattle.records.proofs.Laws.{begin, next, stored, flag, written}
 use Rattle.records.proofs.answer.put_answer.Statement.{statement}
 use Rattle.records.proofs.answer.put_answer.Tie as tie
 
@@ -42,12 +41,15 @@ same-length c = search needs
 
 returns : tie.Need-returns
 returns c =
-    let x = c .before .before .before .before .before .before .args .x in
-    let start = begin (c .before .before .before .before .before .before .args .out .now) (c .before .before .before .before .before .before .pre) in
+    let s = c .before .before .before .before .before .before in
+    let x = s .args .x in
+    let start = begin (s .args .out .now) (s .pre) in
     let words = next start 8 (c .before .before .before .put-pair .ensures) refl (omega arith) in
-    let hits : x .hits % 256 ≡ x .hits = omega arith in
-    let count : x .count % 256 ≡ x .count = omega arith in
-    stored (x .hits ∷ x .count ∷ c .bit .result ∷ 0 ∷ []) words refl ∙ simp (hits, count, c .bit .ensures, flag-byte)
+    let bytes = x .hits ∷ x .count ∷ c .bit .result ∷ 0 ∷ [] in
+    let hits : x .hits ≡ x .hits % 256 = omega arith in
+    let count : x .count ≡ x .count % 256 = omega arith in
+    let force = flag (x .force) (c .bit .ensures) in
+    written (stored words bytes (λ i. hits i ∷ count i ∷ force i ∷ 0 ∷ []) (omega arith))
 
 pub put-answer-spec : {M : Type 1} → statement M
 put-answer-spec =

@@ -20,7 +20,9 @@ sound-prefetch-requires c κs = search needs
 
 returns-2 : tie.Need-returns-2
 unfolding sound
-returns-2 c = simp (eq-eqb _ _ (c .before .before .before .before .if1 .left), c .before .before .before .load-clock .ensures, c .before .sound-bytes .ensures, c .sound-prefetch .ensures)
+returns-2 c =
+    let long = eq-eqb _ _ (c .before .before .before .if1 .left) in
+    simp (long, c .before .before .load-clock .ensures, c .before .sound-bytes .ensures, c .sound-prefetch .ensures)
 
 pub is-sound-spec : {M : Type 1} → statement M
 is-sound-spec =

@@ -21,7 +21,14 @@ read64-requires-3 c κs = search needs
 
 returns : tie.Need-returns
 unfolding contentsOf
-returns c = simp (c .before .before .before .before .read32 .ensures, c .before .before .before .read322 .ensures, c .before .before .read64 .ensures, c .before .read642 .ensures, c .read643 .ensures)
+returns c i =
+    record {
+      «cpu_pc» = c .before .before .before .before .read32 .ensures i;
+      «last_bios_opcode» = c .before .before .before .read322 .ensures i;
+      «vram_write_count» = c .before .before .read64 .ensures i;
+      «oam_write_count» = c .before .read642 .ensures i;
+      «palette_write_count» = c .read643 .ensures i;
+    }
 
 pub load-contents-spec : {M : Type 1} → statement M
 load-contents-spec =

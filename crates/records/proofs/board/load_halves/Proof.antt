@@ -1,4 +1,5 @@
 -- `records::board::load_halves` meets its contract: the halfwords are read where the definition has them. Assumes nothing.
+use mathlib.Core.List.{_∷_, []}
 use borrow.Author.Needs.{needs}
 use Rattle.records.proofs.board.load_halves.Statement.{statement}
 use Rattle.records.proofs.board.load_halves.Tie as tie
@@ -28,7 +29,16 @@ read16-requires-8 : tie.Need-read16-requires-8
 read16-requires-8 c κs = search needs
 
 returns : tie.Need-returns
-returns c = simp (c .before .before .before .before .before .before .before .read16 .ensures, c .before .before .before .before .before .before .read162 .ensures, c .before .before .before .before .before .read163 .ensures, c .before .before .before .before .read164 .ensures, c .before .before .before .read165 .ensures, c .before .before .read166 .ensures, c .before .read167 .ensures, c .read168 .ensures)
+returns c i =
+    c .before .before .before .before .before .before .before .read16 .ensures i
+    ∷ c .before .before .before .before .before .before .read162 .ensures i
+    ∷ c .before .before .before .before .before .read163 .ensures i
+    ∷ c .before .before .before .before .read164 .ensures i
+    ∷ c .before .before .before .read165 .ensures i
+    ∷ c .before .before .read166 .ensures i
+    ∷ c .before .read167 .ensures i
+    ∷ c .read168 .ensures i
+    ∷ []
 
 pub load-halves-spec : {M : Type 1} → statement M
 load-halves-spec =

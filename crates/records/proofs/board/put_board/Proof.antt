@@ -1,6 +1,6 @@
 -- `records::board::put_board` meets its contract: clock, halfwords and contents stand one behind the other. Assumes nothing.
-use mathlib.Core.List.{append-assoc}
 use mathlib.Core.Path.{_∙_, refl}
+use mathlib.Core.List.{append-assoc}
 use native.Mathlib.Omega.{arith}
 use borrow.Author.Needs.{needs}
 use Rattle.model.specs.Base.{encoded}
@@ -52,8 +52,9 @@ same-length c = search needs
 returns : tie.Need-returns
 unfolding boardBytes
 returns c =
-    let a = c .before .before .before .before .before .before .before .before .before .before .before .before .before .args in
-    let start = begin (a .board .now) (c .before .before .before .before .before .before .before .before .before .before .before .before .before .pre) in
+    let s = c .before .before .before .before .before .before .before .before .before .before .before .before .before in
+    let a = s .args in
+    let start = begin (a .board .now) (s .pre) in
     let clock = next start 20 (c .before .before .before .before .before .before .before .before .before .before .put-clock .ensures) refl (omega arith) in
     let halves = next clock 16 (c .before .before .before .before .before .before .put-halves .ensures) (omega (arith, halfBytes-length (a .halves))) (omega arith) in
     written (next halves 36 (c .before .before .put-contents .ensures) refl (omega arith))

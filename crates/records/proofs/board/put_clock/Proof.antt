@@ -35,7 +35,8 @@ same-length c = search needs
 
 returns : tie.Need-returns
 returns c =
-    let start = begin (c .before .before .before .before .before .before .before .before .before .before .args .out .now) (c .before .before .before .before .before .before .before .before .before .before .pre) in
+    let s = c .before .before .before .before .before .before .before .before .before in
+    let start = begin (s .args .out .now) (s .pre) in
     let flags = next start 8 (c .before .before .before .before .before .before .put-flags .ensures) refl (omega arith) in
     written (next flags 12 (c .before .before .put-words .ensures) refl (omega arith))
 

@@ -47,7 +47,8 @@ same-length c = search needs
 
 returns : tie.Need-returns
 returns c =
-    let start = begin (c .before .before .before .before .before .before .before .before .before .before .before .before .before .args .out .now) (c .before .before .before .before .before .before .before .before .before .before .before .before .before .pre) in
+    let s = c .before .before .before .before .before .before .before .before .before .before .before .before .before in
+    let start = begin (s .args .out .now) (s .pre) in
     let words = next start 8 (c .before .before .before .before .before .before .before .before .before .before .put-pair .ensures) refl (omega arith) in
     let counters = next words 24 (c .before .before .before .before .before .before .put-counters .ensures) refl (omega arith) in
     written (next counters 4 (c .before .before .put32 .ensures) refl (omega arith))

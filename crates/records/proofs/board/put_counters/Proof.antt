@@ -47,7 +47,8 @@ same-length c = search needs
 
 returns : tie.Need-returns
 returns c =
-    let start = begin (c .before .before .before .before .before .before .before .before .before .before .before .before .before .args .out .now) (c .before .before .before .before .before .before .before .before .before .before .before .before .before .pre) in
+    let s = c .before .before .before .before .before .before .before .before .before .before .before .before .before in
+    let start = begin (s .args .out .now) (s .pre) in
     let vram = next start 8 (c .before .before .before .before .before .before .before .before .before .before .put64 .ensures) refl (omega arith) in
     let oam = next vram 8 (c .before .before .before .before .before .before .put642 .ensures) refl (omega arith) in
     written (next oam 8 (c .before .before .put643 .ensures) refl (omega arith))

@@ -1,12 +1,11 @@
 -- `records::board::put_flags` meets its contract: a halfword is put, then six bytes are stored. Assumes nothing.
+use mathlib.Core.Path.{refl}
 use mathlib.Core.List.{_∷_, []}
-use mathlib.Core.Path.{_∙_, refl}
 use Prim.Native.Nat.{_%_}
 use native.Mathlib.Omega.{arith}
 use lib.ListN.{length-set}
 use borrow.Author.Needs.{needs}
-use Rattle.model.specs.Laws.Codec.{flag-byte}
-use Rattle.records.proofs.Laws.{begin, next, stored}
+use Rattle.records.proofs.Laws.{begin, next, stored, flag, written}
 use Rattle.records.proofs.board.put_flags.Statement.{statement}
 use Rattle.records.proofs.board.put_flags.Tie as tie
 
@@ -60,11 +59,16 @@ same-length c = simp length-set (omega arith)
 
 returns : tie.Need-returns
 returns c =
-    let p = c .before .before .before .before .before .before .before .before .before .before .before .args .clock .prefetch in
-    let start = begin (c .before .before .before .before .before .before .before .before .before .before .before .args .out .now) (c .before .before .before .before .before .before .before .before .before .before .before .pre) in
+    let s = c .before .before .before .before .before .before .before .before .before .before in
+    let k = s .args .clock in
+    let p = k .prefetch in
+    let start = begin (s .args .out .now) (s .pre) in
     let waitcnt = next start 2 (c .before .before .before .before .before .before .before .put16 .ensures) refl (omega arith) in
-    stored (c .before .before .before .before .bit .result ∷ p .head % 256 ∷ p .count % 256 ∷ c .before .bit2 .result ∷ c .bit3 .result ∷ 0 ∷ []) waitcnt refl
-    ∙ simp (c .before .before .before .before .bit .ensures, c .before .bit2 .ensures, c .bit3 .ensures, flag-byte)
+    let bytes = c .before .before .before .before .bit .result ∷ p .head % 256 ∷ p .count % 256 ∷ c .before .bit2 .result ∷ c .bit3 .result ∷ 0 ∷ [] in
+    let force = flag (k .«force_next_fetch_n») (c .before .before .before .before .bit .ensures) in
+    let filling = flag (p .filling) (c .before .bit2 .ensures) in
+    let first = flag (p .«first_beat») (c .bit3 .ensures) in
+    written (stored waitcnt bytes (λ i. force i ∷ p .head % 256 ∷ p .count % 256 ∷ filling i ∷ first i ∷ 0 ∷ []) (omega arith))
 
 pub put-flags-spec : {M : Type 1} → statement M
 put-flags-spec =

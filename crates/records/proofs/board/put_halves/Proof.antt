@@ -1,6 +1,6 @@
 -- `records::board::put_halves` meets its contract: i halfwords are written, and each turn puts the next behind them. Assumes nothing.
+use mathlib.Core.Path.{_≡_, _∙_, refl, ap}
 use mathlib.Core.List.{List, [], _∷_, _++_}
-use mathlib.Core.Path.{_≡_, _∙_, refl, sym, ap}
 use Prim.Native.Nat.{ℕ, _+_, _-_, _*_, _≤_, _<_}
 use native.Mathlib.Numerals.{add-one}
 use native.Mathlib.Omega.{arith}
@@ -18,15 +18,16 @@ half-snoc : (hs : List ℕ) (h : ℕ) → halfBytes (hs ++ (h ∷ [])) ≡ halfB
 half-snoc [] h = refl
 half-snoc (g ∷ hs) h = ap (λ (t : List ℕ). bytes 2 g ++ t) (half-snoc hs h)
 
+half-more : (hs : List ℕ) (i : ℕ) → i < length hs → halfBytes (take (i + 1) hs) ≡ halfBytes (take i hs) ++ bytes 2 (getD hs i 0)
+half-more hs i h = rw (add-one, take-suc hs i 0) (half-snoc (take i hs) (getD hs i 0))
+
 -- one halfword more
 half-next : {n : ℕ} {l x : List ℕ} (hs : List ℕ) (i : ℕ) → i < length hs → 2 * i + 2 ≤ n → x ≡ bytes 2 (getD hs i 0)
     → Begun n l (2 * i) (halfBytes (take i hs)) → Begun n (putMid (2 * i) (2 * i + 2 - 2 * i) l x) (2 * (i + 1)) (halfBytes (take (i + 1) hs))
-half-next {n} {l} {x} hs i h m e g =
+half-next hs i h m e g =
     let z : 2 * i + 2 - 2 * i ≡ 2 = omega arith in
-    let b = next g 2 e refl m in
     let a : 2 * (i + 1) ≡ 2 * i + 2 = omega arith in
-    let more : halfBytes (take (i + 1) hs) ≡ halfBytes (take i hs) ++ bytes 2 (getD hs i 0) = rw (add-one, take-suc hs i 0) (half-snoc (take i hs) (getD hs i 0)) in
-    rw (z, a, more) b
+    rw (z, a, half-more hs i h) (next g 2 e refl m)
 
 abbrev Inv-loop : tie.InvT-loop
 Inv-loop out₀ halves i₀ out i = (i ≤ 8) × (length halves ≡ 8) × Begun 16 out (2 * i) (halfBytes (take i halves))
@@ -69,8 +70,9 @@ loop-less c = omega arith
 
 loop-again : tie.Need-loop-again Inv-loop μ-loop
 loop-again c =
-    let g = c .before .before .before .before .before .loop .inv in
-    (omega arith, g .1, half-next (c .before .before .before .before .before .before .before .args .t2) (c .before .before .before .before .before .loop .i) (omega arith) (omega arith) (c .before .before .put16 .ensures) (g .2))
+    let l = c .before .before .before .before .before in
+    let g = l .loop .inv in
+    (omega arith, g .1, half-next (l .before .before .args .t2) (l .loop .i) (omega arith) (omega arith) (c .before .before .put16 .ensures) (g .2))
 
 same-length : tie.Need-same-length Inv-loop μ-loop
 same-length c = omega arith

@@ -1,13 +1,13 @@
 -- `records::board::sound_beat` meets its contract: filling decides what the definition asks of the rest. Assumes nothing.
-use mathlib.Core.Bool.{Bool, true, false, not, _&&_, _||_}
 use mathlib.Core.Path.{_≡_, _∙_, refl, sym}
+use mathlib.Core.Bool.{Bool, true, false, not, _&&_, _||_}
 use lib.Dec.{leb}
 use borrow.Author.Needs.{needs}
 use borrow.Author.Tests.{not-true, not-false}
 use Rattle.model.specs.Base.{if_then_else_, same}
+use Rattle.model.specs.Wait.{inWindow}
 use Rattle.model.specs.BoardBytes.{soundBeat}
 use Rattle.model.specs.Laws.Choice.{if-true, if-false}
-use Rattle.model.specs.Wait.{inWindow}
 use Rattle.records.proofs.board.sound_beat.Statement.{statement}
 use Rattle.records.proofs.board.sound_beat.Tie as tie
 

@@ -1,5 +1,6 @@
 -- `records::board::sound_prefetch` meets its contract: the count is told first; the rest is the definition. Assumes nothing.
 use mathlib.Core.Bool.{and-true, and-false}
+use native.Mathlib.Omega.{arith}
 use borrow.Author.Needs.{needs}
 use borrow.Author.Tests.{lt-leb, le-leb}
 use Rattle.model.specs.BoardBytes.{soundPrefetch}
@@ -8,7 +9,7 @@ use Rattle.records.proofs.board.sound_prefetch.Tie as tie
 
 returns : tie.Need-returns
 unfolding soundPrefetch
-returns c = simp (lt-leb _ _ (c .if1 .taken), and-false)
+returns c = simp (lt-leb (c .before .before .args .p .count) 8 (omega arith), and-false)
 
 sound-beat-requires : tie.Need-sound-beat-requires
 sound-beat-requires c κs = search needs
@@ -21,7 +22,9 @@ is-zero-requires c κs = search needs
 
 returns-2 : tie.Need-returns-2
 unfolding soundPrefetch
-returns-2 c = simp (le-leb _ _ (c .before .before .before .before .before .before .before .if1 .left), and-true, c .before .before .before .before .before .before .sound-beat .ensures, c .before .before .before .before .before .sound-row .ensures, c .before .before .before .before .is-zero .ensures)
+returns-2 c =
+    let few = le-leb _ _ (c .before .before .before .before .before .before .before .if1 .left) in
+    simp (few, and-true, c .before .before .before .sound-beat .ensures, c .before .before .sound-row .ensures, c .before .is-zero .ensures)
 
 pub sound-prefetch-spec : {M : Type 1} → statement M
 sound-prefetch-spec =

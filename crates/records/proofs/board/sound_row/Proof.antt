@@ -37,7 +37,10 @@ in-window-requires-2 c κs = search needs
 
 returns-3 : tie.Need-returns-3
 unfolding soundRow
-returns-3 c = simp (ne-eqb _ _ (c .before .before .before .before .before .before .if1 .left), eq-eqb _ _ (c .before .before .before .if2 .left), and-true, c .before .before .in-window .ensures, c .in-window2 .ensures)
+returns-3 c =
+    let some = ne-eqb _ _ (c .before .before .before .before .before .before .if1 .left) in
+    let long = eq-eqb _ _ (c .before .before .before .if2 .left) in
+    simp (some, long, and-true, c .before .before .in-window .ensures, c .in-window2 .ensures)
 
 pub sound-row-spec : {M : Type 1} → statement M
 sound-row-spec =

@@ -1,8 +1,9 @@
 -- `records::le::put32` meets its contract: the stores leave what was stored. Assumes nothing.
 use mathlib.Core.Path.{refl}
+use native.Mathlib.Omega.{arith}
 use borrow.Author.Needs.{needs}
 use Rattle.model.specs.Base.{bytes}
-use Rattle.records.proofs.Laws.{begin, stored}
+use Rattle.records.proofs.Laws.{begin, stored, written}
 use Rattle.records.proofs.le.put32.Statement.{statement}
 use Rattle.records.proofs.le.put32.Tie as tie
 
@@ -34,7 +35,7 @@ same-length : tie.Need-same-length
 same-length c = search needs
 
 returns : tie.Need-returns
-returns c = stored (bytes 4 (c .args .v)) (begin (c .args .out .now) (c .pre)) refl
+returns c = written (stored (begin (c .args .out .now) (c .pre)) (bytes 4 (c .args .v)) refl (omega arith))
 
 pub put32-spec : {M : Type 1} → statement M
 put32-spec =

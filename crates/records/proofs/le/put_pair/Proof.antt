@@ -35,7 +35,8 @@ same-length c = search needs
 
 returns : tie.Need-returns
 returns c =
-    let start = begin (c .before .before .before .before .before .before .before .before .before .args .out .now) (c .before .before .before .before .before .before .before .before .before .pre) in
+    let s = c .before .before .before .before .before .before .before .before .before in
+    let start = begin (s .args .out .now) (s .pre) in
     let first = next start 4 (c .before .before .before .before .before .before .put32 .ensures) refl (omega arith) in
     written (next first 4 (c .before .before .put322 .ensures) refl (omega arith))
 

@@ -1,5 +1,4 @@
 -- `records::le::read64` meets its contract: the number is that of its two halves. Assumes nothing.
-use mathlib.Core.Path.{refl}
 use borrow.Author.Needs.{needs}
 use Rattle.records.proofs.Laws.{joined}
 use Rattle.records.proofs.le.read64.Statement.{statement}
@@ -27,7 +26,7 @@ add-result : tie.Need-add-result
 add-result c = search needs
 
 returns : tie.Need-returns
-returns c = joined 4 (c .before .before .before .args .s .now) (c .before .before .before .args .at) refl (c .before .read32 .ensures) (c .read322 .ensures)
+returns c = joined 4 (c .before .before .before .args .s .now) (c .before .before .before .args .at) (c .before .read32 .ensures) (c .read322 .ensures)
 
 pub read64-spec : {M : Type 1} → statement M
 read64-spec =

@@ -11,10 +11,10 @@ byte-at-requires : tie.Need-byte-at-requires
 byte-at-requires c κs = search needs
 
 mul-result : tie.Need-mul-result
-mul-result c = omega (arith, c .before .record-count .ensures, c .before .before .shared-slice-known .given 6, c .before .before .shared-slice-known .given 7)
+mul-result c = omega (arith, c .before .before .shared-slice-known .given 6, c .before .before .shared-slice-known .given 7)
 
 add-result : tie.Need-add-result
-add-result c = omega (arith, c .before .record-count .ensures, c .before .before .shared-slice-known .given 6, c .before .before .shared-slice-known .given 7)
+add-result c = omega (arith, c .before .before .shared-slice-known .given 6, c .before .before .shared-slice-known .given 7)
 
 returns : tie.Need-returns
 returns c = simp (c .byte-at .ensures, c .before .record-count .ensures)

@@ -9,7 +9,7 @@ size-fits-requires c κs = search needs
 
 returns : tie.Need-returns
 unfolding kindFault
-returns c = simp (c .before .before .size-fits .ensures)
+returns c = simp (c .size-fits .ensures)
 
 pub kind-fault-spec : {M : Type 1} → statement M
 kind-fault-spec = tie.close (tie.spec size-fits-requires returns)

@@ -53,7 +53,8 @@ returns-9 : tie.Need-returns-9
 unfolding stepOf
 returns-9 c =
     let r = c .match .rest in
-    simp (ne-eqb _ _ (r .1), ne-eqb _ _ (r .0 .1), ne-eqb _ _ (r .0 .0 .1), ne-eqb _ _ (r .0 .0 .0 .1), ne-eqb _ _ (r .0 .0 .0 .0 .1), ne-eqb _ _ (r .0 .0 .0 .0 .0 .1), ne-eqb _ _ (r .0 .0 .0 .0 .0 .0 .1), ne-eqb _ _ (r .0 .0 .0 .0 .0 .0 .0 .1))
+    let q = r .0 .0 .0 .0 in
+    simp (ne-eqb _ _ (r .1), ne-eqb _ _ (r .0 .1), ne-eqb _ _ (r .0 .0 .1), ne-eqb _ _ (r .0 .0 .0 .1), ne-eqb _ _ (q .1), ne-eqb _ _ (q .0 .1), ne-eqb _ _ (q .0 .0 .1), ne-eqb _ _ (q .0 .0 .0 .1))
 
 pub step-of-spec : {M : Type 1} → statement M
 step-of-spec =
