@@ -1,0 +1,2 @@
+-- What the contracts of `replay` cite. Assumes nothing.
+pub mod Pattern

@@ -1,0 +1,390 @@
+// Replays recorded runs: reads a sample of cases with the Rust's answers from standard input, does each by `bts_run`, tells
+// each field that differs, as `case 17: board`, and at the end how many cases agree. A case's number is its place in the
+// sample, from 0 on: case 17 is `sample:17` of tests/against-rust.
+//
+// The sample, the file `stdin`, was recorded by `tests/against-rust/run --record crates/replay/stdin` from the Rust at commit
+// 46607fe0ef, built unchanged but for a way to its prefetch's private fields. tests/against-rust/README.md has the format. Its
+// 465 cases are the worked figures' lists; random lists over memories of 0, 1, odd and other lengths; sound boards that no
+// list of steps leads to, among them counters near 2^64 - 1; fills across each window edge, and one stopped after each number
+// of cycles; each refusal alone and each two of them; each way to break a board, boards of other lengths, and random damage;
+// each kind of record with each field wrong; lists of 0, 1, 4,096 and 4,097 records; every edge over full memories, those
+// where addresses wrap included; and each memory one byte too long.
+mod pattern;
+mod sample;
+
+use bts::Report;
+use libc::STDOUT_FILENO;
+use model::Lengths;
+ghost use mathlib.Core.Path.{_≡_};
+ghost use Prim.Native.Nat.{_+_, _*_, _≤_};
+
+// How a case, or a part of it, came out: whether the sample had all of it, and whether nothing differed.
+struct Found {
+    whole: bool,
+    same: bool,
+}
+
+fn bad_sample() -> Found {
+    Found {
+        whole: false,
+        same: false,
+    }
+}
+
+fn both(a: Found, b: Found) -> Found {
+    Found {
+        whole: a.whole & b.whole,
+        same: a.same & b.same,
+    }
+}
+
+fn one_if(same: bool) -> u32
+    ensures { λ r. ⌜ r ≤ 1 ⌝ }
+{
+    if same { 1 } else { 0 }
+}
+
+fn tell(case: u32, what: &[u8]) {
+    io::write_all(STDOUT_FILENO, b"case ");
+    io::print_decimal(STDOUT_FILENO, case as u64);
+    io::write_all(STDOUT_FILENO, b": ");
+    io::write_all(STDOUT_FILENO, what);
+    io::write_all(STDOUT_FILENO, b"\n");
+}
+
+// Tells a difference, and hands on whether it is none.
+fn told(case: u32, what: &[u8], same: bool) -> bool
+    ensures { λ r. ⌜ r ≡ same ⌝ }
+{
+    if !same {
+        tell(case, what);
+    }
+    same
+}
+
+// A cast of an element is to be proved where it stands, and one of a parameter is not.
+fn wide(x: u32) -> usize {
+    x as usize
+}
+
+fn lengths_of(head: &[u32; 14]) -> Lengths {
+    Lengths {
+        ewram: wide(head[6]),
+        iwram: wide(head[7]),
+        io: wide(head[8]),
+        palette: wide(head[9]),
+        vram: wide(head[10]),
+        oam: wide(head[11]),
+        sram: wide(head[12]),
+    }
+}
+
+fn doubleword(low: u32, high: u32) -> u64
+    ensures { λ r. ⌜ r ≡ low + high * 4294967296 ⌝ }
+{
+    low as u64 + high as u64 * 0x1_0000_0000
+}
+
+fn compare_report(case: u32, got: Report) -> Found {
+    let mut w = [0u32; 4];
+    if !sample::read_words(&mut w) {
+        return bad_sample();
+    }
+    let number = told(case, b"number", got.number == w[0]);
+    let index = told(case, b"index", got.index == w[1]);
+    let total = told(case, b"total", got.total == doubleword(w[2], w[3]));
+    Found {
+        whole: true,
+        same: number & index & total,
+    }
+}
+
+// Reads into `space` what `got` should be.
+fn compare_bytes(case: u32, what: &[u8], got: &[u8], space: &mut [u8]) -> Found {
+    let n = got.len();
+    if n > space.len() {
+        return bad_sample();
+    }
+    let want = &mut space[0..n];
+    if !sample::read_bytes(want) {
+        return bad_sample();
+    }
+    Found {
+        whole: true,
+        same: told(case, what, check::same(got, want)),
+    }
+}
+
+// One changed byte of the store: it is held against the sample, and then set back to what it was before the run.
+fn undo_change(store: &mut [u8], seed: u32) -> Found {
+    let mut place = [0u32; 1];
+    let mut value = [0u8; 1];
+    if !sample::read_words(&mut place) {
+        return bad_sample();
+    }
+    if !sample::read_bytes(&mut value) {
+        return bad_sample();
+    }
+    let at = wide(place[0]);
+    if at >= store.len() {
+        return bad_sample();
+    }
+    let same = store[at] == value[0];
+    store[at] = pattern::byte_at(at, seed, pattern::STORE);
+    Found { whole: true, same }
+}
+
+fn undo_changes(store: &mut [u8], seed: u32, count: u32) -> Found {
+    let mut same = true;
+    let mut left = count;
+    while left > 0 {
+        let one = undo_change(store, seed);
+        if !one.whole {
+            return bad_sample();
+        }
+        same = same & one.same;
+        left -= 1;
+    }
+    Found { whole: true, same }
+}
+
+// With its changes undone, the store must be as it was before the run, so no second store is needed to compare with.
+fn compare_store(case: u32, store: &mut [u8], seed: u32) -> Found {
+    let mut count = [0u32; 1];
+    if !sample::read_words(&mut count) {
+        return bad_sample();
+    }
+    let undone = undo_changes(store, seed, count[0]);
+    if !undone.whole {
+        return bad_sample();
+    }
+    let rest = pattern::is_filled(store, seed, pattern::STORE);
+    Found {
+        whole: true,
+        same: told(case, b"store", undone.same & rest),
+    }
+}
+
+// Reads the sheet and the board and makes the rest. False where the sample ends before that.
+fn set_up(
+    sheet: &mut [u8],
+    board: &mut [u8],
+    store: &mut [u8],
+    bios: &mut [u8],
+    rom: &mut [u8],
+    answers: &mut [u8],
+    seed: u32,
+) -> bool {
+    if !sample::read_bytes(sheet) {
+        return false;
+    }
+    if !sample::read_bytes(board) {
+        return false;
+    }
+    pattern::fill(store, seed, pattern::STORE);
+    pattern::fill(bios, seed, pattern::BIOS);
+    pattern::fill(rom, seed, pattern::ROM);
+    pattern::fill(answers, seed, pattern::ANSWERS);
+    true
+}
+
+fn run(
+    sheet: &[u8],
+    board: &mut [u8],
+    store: &mut [u8],
+    bios: &[u8],
+    rom: &[u8],
+    answers: &mut [u8],
+    x: Lengths,
+) -> Report {
+    bts::bts_run(
+        sheet,
+        board,
+        store,
+        bios,
+        rom,
+        answers,
+        x.ewram,
+        x.iwram,
+        x.io,
+        x.palette,
+        x.vram,
+        x.oam,
+        x.sram,
+    )
+}
+
+// Compares what a run left, in the sample's order.
+fn compare(
+    case: u32,
+    report: Report,
+    board: &[u8],
+    store: &mut [u8],
+    answers: &[u8],
+    space: &mut [u8],
+    seed: u32,
+) -> Found {
+    let first = compare_report(case, report);
+    let second = compare_bytes(case, b"board", board, space);
+    let third = compare_bytes(case, b"answers", answers, space);
+    let fourth = compare_store(case, store, seed);
+    both(both(first, second), both(third, fourth))
+}
+
+// A case whose buffers have the lengths that the sample says.
+fn replay_lent(
+    case: u32,
+    sheet: &mut [u8],
+    board: &mut [u8],
+    store: &mut [u8],
+    bios: &mut [u8],
+    rom: &mut [u8],
+    answers: &mut [u8],
+    space: &mut [u8],
+    lengths: Lengths,
+    seed: u32,
+) -> Found {
+    if !set_up(sheet, board, store, bios, rom, answers, seed) {
+        return bad_sample();
+    }
+    let report = run(sheet, board, store, bios, rom, answers, lengths);
+    compare(case, report, board, store, answers, space, seed)
+}
+
+// Lends as much of the store, the BIOS and the ROM as the case's head says.
+fn lend_memories(
+    case: u32,
+    head: &[u32; 14],
+    sheet: &mut [u8],
+    board: &mut [u8],
+    store: &mut [u8],
+    bios: &mut [u8],
+    rom: &mut [u8],
+    answers: &mut [u8],
+    space: &mut [u8],
+) -> Found {
+    let a = wide(head[2]);
+    let b = wide(head[3]);
+    let c = wide(head[4]);
+    if a > store.len() {
+        return bad_sample();
+    }
+    if b > bios.len() {
+        return bad_sample();
+    }
+    if c > rom.len() {
+        return bad_sample();
+    }
+    let memories = lengths_of(head);
+    replay_lent(
+        case,
+        sheet,
+        board,
+        &mut store[0..a],
+        &mut bios[0..b],
+        &mut rom[0..c],
+        answers,
+        space,
+        memories,
+        head[13],
+    )
+}
+
+// Reads a case's head, and lends as much of the sheet, the board and the answers as it says.
+fn replay_case(
+    case: u32,
+    sheet: &mut [u8],
+    board: &mut [u8],
+    store: &mut [u8],
+    bios: &mut [u8],
+    rom: &mut [u8],
+    answers: &mut [u8],
+    space: &mut [u8],
+) -> Found {
+    let mut head = [0u32; 14];
+    if !sample::read_words(&mut head) {
+        return bad_sample();
+    }
+    let a = wide(head[0]);
+    let b = wide(head[1]);
+    let c = wide(head[5]);
+    if a > sheet.len() {
+        return bad_sample();
+    }
+    if b > board.len() {
+        return bad_sample();
+    }
+    if c > answers.len() {
+        return bad_sample();
+    }
+    lend_memories(
+        case,
+        &head,
+        &mut sheet[0..a],
+        &mut board[0..b],
+        store,
+        bios,
+        rom,
+        &mut answers[0..c],
+        space,
+    )
+}
+
+// Replays cases until all are done or one is cut off or too long, and answers how many agree.
+fn replay_all(
+    count: u32,
+    sheet: &mut [u8],
+    board: &mut [u8],
+    store: &mut [u8],
+    bios: &mut [u8],
+    rom: &mut [u8],
+    answers: &mut [u8],
+    space: &mut [u8],
+) -> u32 {
+    let mut agree: u32 = 0;
+    let mut case: u32 = 0;
+    while case < count {
+        let found = replay_case(case, sheet, board, store, bios, rom, answers, space);
+        if !found.whole {
+            tell(case, b"bad sample");
+            return agree;
+        }
+        agree += one_if(found.same);
+        case += 1;
+    }
+    agree
+}
+
+// Each buffer is as long as the most that a case of the sample lends.
+fn replay(count: u32) {
+    let mut sheet = [0u8; 49172];
+    let mut board = [0u8; 144];
+    let mut store = [0u8; 462853];
+    let mut bios = [0u8; 16385];
+    let mut rom = [0u8; 131136];
+    let mut answers = [0u8; 49164];
+    let mut space = [0u8; 49164];
+    let agree = replay_all(
+        count,
+        &mut sheet,
+        &mut board,
+        &mut store,
+        &mut bios,
+        &mut rom,
+        &mut answers,
+        &mut space,
+    );
+    io::print_decimal(STDOUT_FILENO, agree as u64);
+    io::write_all(STDOUT_FILENO, b" of ");
+    io::print_decimal(STDOUT_FILENO, count as u64);
+    io::write_all(STDOUT_FILENO, b" agree\n");
+}
+
+fn main() {
+    let mut count = [0u32; 1];
+    if !sample::read_words(&mut count) {
+        io::write_all(STDOUT_FILENO, b"bad sample\n");
+        return;
+    }
+    replay(count[0]);
+}
