@@ -129,13 +129,8 @@ fn show(title: &[u8], a: Row, b: Row, c: Row) {
     io::write_all(STDOUT_FILENO, b"\n");
 }
 
-fn main() {
-    show(
-        b"SRAM loads wrap, stores do not",
-        write(1, 0x0E00_0000, 0x11),
-        write(1, 0x0E00_8000, 0x5A),
-        read(1, 0x0E00_8000),
-    );
+// What a data access costs by region, at power on.
+fn data_prices() {
     show(
         b"EWRAM 3, 3, 6",
         read(1, 0x0200_0000),
@@ -166,6 +161,10 @@ fn main() {
         read(2, 0x0E00_0000),
         read(4, 0x0E00_0000),
     );
+}
+
+// WAITCNT 0x4317, which most commercial cartridges set.
+fn common_setting() {
     show(
         b"The common setting: WS0 4, 6",
         waitcnt(0x4317),
@@ -184,6 +183,16 @@ fn main() {
         read(1, 0x0E00_0000),
         read(4, 0x0E00_0000),
     );
+}
+
+// Where a load and a store go.
+fn places() {
+    show(
+        b"SRAM loads wrap, stores do not",
+        write(1, 0x0E00_0000, 0x11),
+        write(1, 0x0E00_8000, 0x5A),
+        read(1, 0x0E00_8000),
+    );
     show(
         b"VRAM: both halves from 0x10000 are one",
         write(2, 0x0601_0000, 0x1234),
@@ -196,6 +205,16 @@ fn main() {
         read(4, 0x0400_0800),
         read(4, 0x0401_0800),
     );
+    show(
+        b"A word across ROM and SRAM",
+        write(1, 0x0E00_0000, 0xA0),
+        read(4, 0x0DFF_FFFE),
+        read(2, 0x0DFF_FFFF),
+    );
+}
+
+// Prices of opcodes, and their idle cycles.
+fn instructions() {
     show(
         b"Internal cycle: SWP, MUL, LDM",
         instruction(4, 0x0300_0000, 0xE101_0092),
@@ -214,10 +233,11 @@ fn main() {
         instruction(2, 0x0802_0001, 0x1C00),
         instruction(4, 0x0801_FFFE, 0xE1A0_0000),
     );
-    show(
-        b"A word across ROM and SRAM",
-        write(1, 0x0E00_0000, 0xA0),
-        read(4, 0x0DFF_FFFE),
-        read(2, 0x0DFF_FFFF),
-    );
+}
+
+fn main() {
+    data_prices();
+    common_setting();
+    places();
+    instructions();
 }
