@@ -1,18 +1,14 @@
 -- A step in two parts, as the run does it: what it does before its idle cycles, and how many idle cycles follow. The run's loop then
 -- ticks in one place.
 use mathlib.Core.Path.{_≡_, refl}
-use mathlib.Core.Bool.{Bool}
-use mathlib.Core.List.{List}
 use Prim.Native.Nat.{ℕ}
 use Rattle.model.specs.Prefetch.{ticks, filled}
 use Rattle.model.specs.Load.{load16}
-use Rattle.model.specs.Step.{Media, State, waitsOf, withPrefetch, setWaitcnt, priced, codeFetched, busOf, cycles, hits, value, clockAfter, contentsAfter, halvesAfter}
+use Rattle.model.specs.Step.{Media, State, waitsOf, withPrefetch, setWaitcnt, priced, codeFetched, busOf, clockAfter, halvesAfter}
 use Rattle.model.specs.Prefetch.{restart, fetched}
 use Rattle.model.specs.Laws.Sound.{SoundClock, clockAfter-sound, codeFetched-sound}
 use Rattle.model.specs.Laws.Switch.{codeFetched-switch}
 use Rattle.model.specs.declared.Clock.{Clock}
-use Rattle.model.specs.declared.Contents.{Contents}
-use Rattle.model.specs.declared.Lengths.{Lengths}
 use Rattle.model.specs.declared.Step.{Step}
 use Rattle.model.specs.declared.Step.the-variants.{Read, Write, Waitcnt, Idle, Fetch, Restart, Instruction, Pc, Latch}
 

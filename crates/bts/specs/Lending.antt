@@ -1,11 +1,10 @@
 -- What the exported run is lent and what it gives back, as the definitions have it; and what an accepted run's parts make of it.
-use mathlib.Core.Path.{_≡_, refl, sym, ap, ap₂, _∙_}
-use mathlib.Core.List.{List, _++_}
-use Prim.Native.Nat.{ℕ, _+_, _*_}
-use lib.ListN.{length, drop}
-use Rattle.model.specs.Step.{Media, State, Result, run, total}
-use Rattle.model.specs.Sheet.{recordCount, stepsOf}
-use Rattle.model.specs.BoardBytes.{clockOf, halvesFrom, contentsOf, boardOf, boardBytes, answersBytes}
+use mathlib.Core.Path.{_≡_, sym, ap, _∙_}
+use mathlib.Core.List.{List}
+use Prim.Native.Nat.{ℕ}
+use Rattle.model.specs.Step.{State, total}
+use Rattle.model.specs.Sheet.{recordCount}
+use Rattle.model.specs.BoardBytes.{clockOf, halvesFrom, contentsOf, boardBytes}
 use Rattle.model.specs.Outcome.{Lent, Outcome, mediaOf, firstState, ran, verdict, refusalNumber, refusalIndex, outcomeBy, outcome}
 use Rattle.bts.specs.Parts.{stateFrom}
 use Rattle.bts.specs.Progress.{Ended}

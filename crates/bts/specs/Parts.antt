@@ -1,12 +1,11 @@
 -- The run's parts as the code has them: media and state from what is lent, a step up to its idle cycles, and a whole step with its answer.
-use mathlib.Core.Path.{_≡_, refl, sym, ap, ap₂, _∙_}
+use mathlib.Core.Path.{_≡_, refl, ap, _∙_}
 use mathlib.Core.Bool.{Bool, true, false, _&&_}
 use mathlib.Core.List.{List, []}
-use Prim.Native.Nat.{ℕ, _+_, _-_, _%_, _^_, _≤_, _<_, min}
+use Prim.Native.Nat.{ℕ, _<_}
 use native.Mathlib.Omega.{arith}
-use lib.Dec.{eqb}
 use lib.ListN.{getD}
-use Rattle.model.specs.Base.{if_then_else_, bit, further}
+use Rattle.model.specs.Base.{further}
 use Rattle.model.specs.Region.{decode}
 use Rattle.model.specs.Video.{PaletteRam, VideoRam, ObjectRam}
 use Rattle.model.specs.Mirror.{ioOffset}

@@ -2,11 +2,11 @@
 -- whole run. The loop's invariant, with its beginning, its turn and its end as laws on plain lists.
 use mathlib.Core.Path.{_≡_, refl, sym, ap, ap₂, _∙_}
 use mathlib.Core.List.{List, [], _∷_, _++_, map, append-assoc, append-nil}
-use Prim.Native.Nat.{ℕ, zero, suc, _+_, _-_, _*_, _≤_, _<_}
+use Prim.Native.Nat.{ℕ, suc, _+_, _-_, _*_, _≤_, _<_}
 use native.Mathlib.Omega.{arith}
-use native.Mathlib.Nat.{sub-self, sub-zero}
-use lib.ListN.{length, take, drop, length-append, length-drop, take-append-drop}
-use lib.Seq.{take-at, drop-at, drop-drop, drop-length, length-take-le}
+use native.Mathlib.Nat.{sub-zero}
+use lib.ListN.{length, drop, length-append}
+use lib.Seq.{take-at, drop-at, drop-drop}
 use borrow.Rule.Slice.PartMut.{putMid}
 use Rattle.model.specs.Base.{sum}
 use Rattle.model.specs.Step.{Media, State, Result, run, total, stepped, answer, cycles}

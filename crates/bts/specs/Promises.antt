@@ -2,7 +2,7 @@
 -- of a call that was lent `i` and left `o` that `o ≡ outcome i`; everything here follows from that equation.
 use mathlib.Core.Path.{_≡_, refl, sym, ap, _∙_}
 use mathlib.Core.Logic.{_≢_}
-use mathlib.Core.Bool.{Bool, true}
+use mathlib.Core.Bool.{true}
 use Prim.Native.Nat.{ℕ, _+_, _*_, _≤_, _<_}
 use Rattle.model.specs.Base.{sum, byteAt}
 use Rattle.model.specs.Sheet.{recordCount, recordsOf}

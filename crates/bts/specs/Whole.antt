@@ -1,15 +1,14 @@
 -- A whole step, from its parts: what it does up to its idle cycles, the tick, and the answer's bytes.
-use mathlib.Core.Path.{_≡_, refl, sym, ap, ap₂, _∙_}
-use mathlib.Core.Bool.{Bool}
+use mathlib.Core.Path.{_≡_, sym, ap, ap₂, _∙_}
 use mathlib.Core.List.{List}
-use Prim.Native.Nat.{ℕ, _%_, _≤_, _<_}
+use Prim.Native.Nat.{ℕ, _%_, _≤_}
 use native.Mathlib.Omega.{arith}
 use native.Mathlib.Nat.{mod-eq-of-lt}
 use Rattle.model.specs.Waitcnt.{Waits, romWaits}
 use Rattle.model.specs.Prefetch.{ticks, filled}
-use Rattle.model.specs.Load.{romHalfword, load16}
+use Rattle.model.specs.Load.{romHalfword}
 use Rattle.model.specs.BoardBytes.{answerBytes}
-use Rattle.model.specs.Step.{Media, State, busOf, withPrefetch, clockAfter, contentsAfter, halvesAfter, storeAfter, value, cycles, hits, answer}
+use Rattle.model.specs.Step.{Media, State, busOf, withPrefetch, clockAfter, halvesAfter, storeAfter, value, cycles, hits, answer}
 use Rattle.model.specs.Laws.Bounds.{SmallWaits, romWaits-small}
 use Rattle.model.specs.Laws.Sound.{Sound, SoundClock, clockAfter-sound}
 use Rattle.model.specs.Laws.RomLoad.{filled-rom}

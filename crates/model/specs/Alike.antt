@@ -2,14 +2,14 @@
 -- From document 01, "Demand 3".
 use mathlib.Core.Path.{_≡_}
 use mathlib.Core.Logic.{_≢_}
-use mathlib.Core.Bool.{Bool, true, false, _||_}
+use mathlib.Core.Bool.{_||_}
 use mathlib.Core.List.{List, [], _∷_, map}
 use Prim.Native.Nat.{ℕ, zero, suc, _+_, _*_, _≤_, _<_}
 use lib.Dec.{eqb}
 use Rattle.model.specs.Base.{if_then_else_, bit, sum, byteAt, number}
 use Rattle.model.specs.Sheet.{recordAt, recordCount, recordsOf}
 use Rattle.model.specs.BoardBytes.{boardLength}
-use Rattle.model.specs.Outcome.{Lent, Outcome, outcome}
+use Rattle.model.specs.Outcome.{Lent, outcome}
 use Rattle.model.specs.declared.SheetRecord.{SheetRecord}
 
 -- ---- alike

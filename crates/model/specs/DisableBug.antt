@@ -1,7 +1,7 @@
 -- The opcodes that are taken to have internal cycles, and the prefetch disable bug.
 -- From the ARM7TDMI data sheet's instruction formats and GBATEK, "GBA GamePak Prefetch" (disable bug); src/bus/disable_bug.rs;
 -- document 01, "The opcode tests stay as they are".
-use mathlib.Core.Bool.{Bool, true, false, not, _&&_, _||_}
+use mathlib.Core.Bool.{Bool, not, _&&_, _||_}
 use Prim.Native.Nat.{ℕ, _/_, _%_, _^_}
 use lib.Dec.{eqb}
 use Rattle.model.specs.Base.{if_then_else_}

@@ -2,8 +2,7 @@
 -- From GBATEK, "GBA Memory Map" and "GBA Unpredictable Things"; src/bus/mod.rs (`Bus as CpuMem`) and openbus.rs; document 01, "mod.rs".
 use mathlib.Core.Bool.{Bool, true, false}
 use mathlib.Core.List.{List}
-use Prim.Native.Nat.{ℕ, _+_, _*_, _/_, _%_, _^_}
-use lib.ListN.{getD}
+use Prim.Native.Nat.{ℕ, _+_, _*_, _%_}
 use lib.Dec.{eqb, ltb}
 use Rattle.model.specs.Base.{if_then_else_, further, byteOf, byteAt}
 use Rattle.model.specs.Region.{biosSize, decode}

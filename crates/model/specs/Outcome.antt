@@ -1,6 +1,6 @@
 -- What the run gives back, and what it leaves: one function of all that is lent.
 -- From document 01, "What the run gives back".
-use mathlib.Core.Bool.{Bool, true, false, not, _&&_}
+use mathlib.Core.Bool.{Bool, not, _&&_}
 use mathlib.Core.List.{List, _++_}
 use Prim.Native.Nat.{ℕ, _+_, _*_}
 use lib.ListN.{length, drop}

@@ -2,8 +2,8 @@
 -- From GBATEK, "GBA GamePak Prefetch"; src/bus/prefetch.rs; document 01, "prefetch.rs".
 use mathlib.Core.Bool.{Bool, true, false, not, _&&_}
 use mathlib.Core.List.{List}
-use Prim.Native.Nat.{ℕ, zero, suc, _+_, _-_, _*_, _/_, _%_, _^_}
-use lib.ListN.{getD, set}
+use Prim.Native.Nat.{ℕ, zero, suc, _+_, _-_, _%_}
+use lib.ListN.{set}
 use lib.Dec.{eqb, ltb, leb}
 use Rattle.model.specs.Base.{if_then_else_, further, lowered}
 use Rattle.model.specs.Waitcnt.{Waits}

@@ -1,10 +1,10 @@
 -- A sheet: its header and its records, as bytes; the steps that they stand for; and the faults of a record.
 -- From document 01, "Records (added)": "Sheet" is its word for the list of steps that a run is given.
-use mathlib.Core.Bool.{Bool, true, false, not, _&&_, _||_}
+use mathlib.Core.Bool.{Bool, not, _&&_, _||_}
 use mathlib.Core.List.{List, [], _∷_, map}
 use Prim.Native.Nat.{ℕ, zero, suc, _+_, _*_, _%_}
 use lib.ListN.{length}
-use lib.Dec.{eqb, ltb, leb}
+use lib.Dec.{eqb, leb}
 use Rattle.model.specs.Base.{if_then_else_, byteAt, number}
 use Rattle.model.specs.declared.AccessSize.{AccessSize}
 use Rattle.model.specs.declared.AccessSize.the-variants.{Byte, Half, Word}

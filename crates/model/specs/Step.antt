@@ -2,9 +2,9 @@
 -- the step alone: no definition of time has a memory among its arguments. The memories enter only loaded values, the contents
 -- of the board and the store.
 -- From document 01, "Records (added)", "Kind 7 (added)", "Data price (added)"; each step names the Rust calls it stands for.
-use mathlib.Core.Bool.{Bool, true, false, _&&_}
+use mathlib.Core.Bool.{Bool, false, _&&_}
 use mathlib.Core.List.{List, [], _∷_, map}
-use Prim.Native.Nat.{ℕ, _+_, _%_, _^_}
+use Prim.Native.Nat.{ℕ, _+_}
 use lib.ListN.{getD, replicate}
 use Rattle.model.specs.Base.{if_then_else_, bit, sum, further}
 use Rattle.model.specs.Waitcnt.{Waits, written, prefetchEnable, romWaits}

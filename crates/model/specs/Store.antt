@@ -1,8 +1,8 @@
 -- Stores of 1, 2 and 4 bytes: the bytes that land in the lent store, in order, and the video halfwords that are counted.
 -- From GBATEK, "GBA Memory Map" and "GBA Unpredictable Things"; src/bus/mod.rs (`Bus as CpuMem`); document 01, "mod.rs".
-use mathlib.Core.Bool.{Bool, true, false}
+use mathlib.Core.Bool.{Bool}
 use mathlib.Core.List.{List, [], _∷_, _++_}
-use Prim.Native.Nat.{ℕ, _+_, _-_, _*_, _/_, _%_, _^_, min}
+use Prim.Native.Nat.{ℕ, _+_, _-_, _/_, _%_, _^_, min}
 use lib.ListN.{set}
 use lib.Dec.{ltb}
 use Rattle.model.specs.Base.{if_then_else_, bit, further, lowered, byteOf}

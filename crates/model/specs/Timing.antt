@@ -1,8 +1,8 @@
 -- The price of an instruction: its fetch, its internal cycle, the idle cycles it leaves the cartridge bus, and the disable-bug latch.
 -- From GBATEK, "ARM CPU Instruction Cycle Times" and "GBA GamePak Prefetch"; src/cpu/timing.rs; document 01, "cpu/timing.rs".
 -- Departures: branches and stores have no extra or nonsequential fetch, and data cycles are steps of their own.
-use mathlib.Core.Bool.{Bool, true, false, _&&_}
-use Prim.Native.Nat.{ℕ, _+_, _/_, _%_, _^_}
+use mathlib.Core.Bool.{Bool}
+use Prim.Native.Nat.{ℕ, _+_, _%_}
 use lib.Dec.{eqb}
 use Rattle.model.specs.Base.{if_then_else_, bit, further}
 use Rattle.model.specs.Region.{page}

@@ -1,8 +1,8 @@
 -- Access kinds, ROM windows, and the cycles of one access.
 -- From GBATEK, "GBA Memory Map" (access times) and "GBA System Control" (waitstates); src/bus/wait.rs; document 01, "wait.rs".
 use mathlib.Core.Bool.{Bool, true, false, not, _&&_}
-use mathlib.Core.List.{List, []}
-use Prim.Native.Nat.{ℕ, _+_, _/_, _%_, _^_}
+use mathlib.Core.List.{[]}
+use Prim.Native.Nat.{ℕ, _+_, _%_}
 use lib.ListN.{getD}
 use lib.Dec.{eqb, ltb}
 use Rattle.model.specs.Base.{if_then_else_, further}

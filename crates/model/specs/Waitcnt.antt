@@ -1,6 +1,6 @@
 -- WAITCNT: what a write keeps, and the waits that its fields stand for.
 -- From GBATEK, "GBA System Control" (4000204h, WAITCNT); src/bus/waitcnt.rs; document 01, "waitcnt.rs".
-use mathlib.Core.Bool.{Bool, true, false}
+use mathlib.Core.Bool.{Bool}
 use mathlib.Core.List.{List, [], _∷_}
 use Prim.Native.Nat.{ℕ, _+_, _*_, _/_, _%_}
 use lib.ListN.{getD}

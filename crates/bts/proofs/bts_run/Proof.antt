@@ -1,5 +1,5 @@
 -- `bts_run` meets its contract: the verdict decides, an accepted sheet is run, a refused one changes nothing. Assumes nothing.
-use mathlib.Core.Path.{_≡_, refl, sym, ap, _∙_}
+use mathlib.Core.Path.{refl, sym, ap, _∙_}
 use Rattle.model.specs.Outcome.{outcome, outcomeBy}
 use Rattle.bts.specs.Lending.{lending, refused-from}
 use Rattle.bts.specs.Verdicts.{index-small}

@@ -1,5 +1,5 @@
 -- `run_accepted` meets its contract: an accepted sheet gives each callee what it asks, and the run's parts make the accepted outcome. Assumes nothing.
-use mathlib.Core.Path.{_≡_, refl, sym, ap, _∙_}
+use mathlib.Core.Path.{refl}
 use Rattle.bts.specs.Lending.{lending, accepted-from}
 use Rattle.bts.specs.Parts.{stateFrom}
 use Rattle.bts.specs.Verdicts.{ready}

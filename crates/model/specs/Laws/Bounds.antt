@@ -1,12 +1,11 @@
 -- The least and the most that an access, a fetch and a step cost.
-use mathlib.Core.Path.{_≡_, refl}
 use mathlib.Core.Bool.{Bool, true, false, _&&_}
 use mathlib.Core.List.{List, [], _∷_}
-use Prim.Native.Nat.{ℕ, zero, suc, _+_, _*_, _/_, _%_, _^_, _≤_}
+use Prim.Native.Nat.{ℕ, zero, suc, _+_, _*_, _/_, _%_, _≤_}
 use native.Mathlib.Omega.{arith}
 use lib.ListN.{getD}
 use lib.Dec.{T, leb, leb→le, eqb, lit≤}
-use Rattle.model.specs.Base.{if_then_else_, bit, further}
+use Rattle.model.specs.Base.{bit, further}
 use Rattle.model.specs.Region.{decode, page}
 use Rattle.model.specs.Waitcnt.{Waits, nWaits, sWaits, romWaits}
 use Rattle.model.specs.Wait.{nonseqIf, kindAt, romHalfCycles, ewramCycles, videoRamCycles, window}

@@ -1,7 +1,7 @@
 -- What is written as bytes is read back, and what was read is written back: for a number of any width, then for a board.
 -- `decode-encode` and `encode-decode` say it of a board; what a sound board asks of its bytes besides (length, zero bytes, flags) is here too.
 use mathlib.Core.Path.{_≡_, refl, sym, ap, ap₂, _∙_}
-use mathlib.Core.Bool.{Bool, true, false, _&&_, false≢true}
+use mathlib.Core.Bool.{Bool, true, false}
 use mathlib.Core.List.{List, [], _∷_, _++_, map}
 use Prim.Native.Nat.{ℕ, zero, suc, _+_, _*_, _/_, _%_, _^_, _≤_, _<_}
 use native.Mathlib.Omega.{arith}

@@ -2,35 +2,31 @@
 -- answer bytes 4 to 10 of every step and in the total, which is the sum of the cycles and lies within its limits.
 use mathlib.Core.Path.{_≡_, refl, sym, ap, ap₂, _∙_}
 use mathlib.Core.Logic.{_≢_}
-use mathlib.Core.Bool.{Bool, true, false, _||_}
+use mathlib.Core.Bool.{false}
 use mathlib.Core.List.{List, [], _∷_, _++_, map}
-use Prim.Native.Nat.{ℕ, zero, suc, _+_, _-_, _*_, _%_, _^_, _≤_, _<_}
+use Prim.Native.Nat.{ℕ, zero, suc, _+_, _-_, _*_, _%_, _≤_, _<_}
 use native.Mathlib.Omega.{arith}
-use native.Mathlib.Nat.{add-assoc}
 use lib.ListN.{length, getD, drop, List·getD-append}
 use lib.Seq.{getD-append-add}
 use lib.Dec.{eqb}
-use borrow.Author.Tests.{eqb-true, eqb-false}
-use Rattle.model.specs.Base.{if_then_else_, bit, sum, byteAt, bytes, number, AllBytes, field, encoded}
+use Rattle.model.specs.Base.{bit, sum, byteAt, bytes, number, field, encoded}
 use Rattle.model.specs.Waitcnt.{prefetchEnable}
-use Rattle.model.specs.Step.{Media, State, Result, run, total, cycles, clockAfter, stepped, answer}
-use Rattle.model.specs.Sheet.{recordAt, recordsFrom, recordCount, recordsOf, accessSize, isaState, stepOf, stepsOf}
+use Rattle.model.specs.Step.{total, cycles}
+use Rattle.model.specs.Sheet.{recordAt, recordsFrom, recordCount, recordsOf, isaState, stepOf, stepsOf}
 use Rattle.model.specs.BoardBytes.{clockOf, answerBytes, answersBytes}
-use Rattle.model.specs.Outcome.{Lent, LentBytes, Outcome, mediaOf, firstState, ran, outcomeBy, outcome}
-use Rattle.model.specs.Alike.{AlikeRecords, AlikeSheets, AlikeBoards, instructionsIn, accessesIn, idleCyclesIn, Limits, cyclesFrom, Demand3}
-use Rattle.model.specs.Laws.Choice.{choose, choose₂, tests, eqb-ne}
+use Rattle.model.specs.Outcome.{Lent, LentBytes, Outcome, mediaOf, firstState, ran, outcome}
+use Rattle.model.specs.Alike.{AlikeRecords, AlikeSheets, AlikeBoards, cyclesFrom, Demand3}
+use Rattle.model.specs.Laws.Choice.{choose₂, tests, eqb-ne}
 use Rattle.model.specs.Laws.Timing.{Times, times, erased, timings, run-timings, run-total, timings-alike, totalOf}
 use Rattle.model.specs.Laws.Run.{All}
 use Rattle.model.specs.Laws.Limits.{timings-limits}
 use Rattle.model.specs.Laws.Fits.{AnswerFits, answers-fit, answers-length}
 use Rattle.model.specs.Laws.Refusal.{was-accepted}
-use Rattle.model.specs.Laws.Codec.{number-past, number-fits, number-below}
-use Rattle.model.specs.declared.Clock.{Clock}
+use Rattle.model.specs.Laws.Codec.{number-past, number-fits}
 use Rattle.model.specs.declared.Answer.{Answer}
 use Rattle.model.specs.declared.SheetRecord.{SheetRecord}
 use Rattle.model.specs.declared.Step.{Step}
-use Rattle.model.specs.declared.Step.the-variants.{Read, Write, Waitcnt, Idle, Fetch, Restart, Instruction, Pc, Latch}
-use Rattle.model.specs.declared.Verdict.the-variants.{Accepted}
+use Rattle.model.specs.declared.Step.the-variants.{Waitcnt, Idle, Instruction}
 
 -- ---- alike sheets have one list of steps, but for the values of WRITE and LATCH
 

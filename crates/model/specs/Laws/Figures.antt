@@ -16,8 +16,7 @@ use Rattle.model.specs.Price.{dataCycles}
 use Rattle.model.specs.Video.{objVramBase, isObjVram}
 use Rattle.model.specs.Load.{byteIn, sramByte, biosByte, load8, load16, load32}
 use Rattle.model.specs.Store.{put, putHalf, target, modeOf, puts8, puts16, putsPair, puts32}
-use Rattle.model.specs.Step.{Media, State, Result, setWaitcnt, codeHits, codeFetched, halfAt, countStore, run, freshBoard}
-use Rattle.model.specs.declared.Lengths.{Lengths}
+use Rattle.model.specs.Step.{Media, Result, setWaitcnt, codeHits, codeFetched, halfAt, countStore, run, freshBoard}
 use Rattle.model.specs.declared.Answer.{Answer}
 use Rattle.model.specs.declared.Region.the-variants.{Ewram, Vram}
 use Rattle.model.specs.declared.AccessSize.the-variants.{Byte, Half, Word}

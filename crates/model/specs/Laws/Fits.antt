@@ -1,21 +1,21 @@
 -- Nothing is cut off: every answer's cycles, hits and count fit their bytes, and the total is at most 4096 (2^32 - 1). The board that an
 -- accepted run writes is sound.
-use mathlib.Core.Path.{_≡_, refl, sym, ap, _∙_}
-use mathlib.Core.Bool.{Bool, true, false, not, _&&_, _||_}
+use mathlib.Core.Path.{_≡_, refl, ap, _∙_}
+use mathlib.Core.Bool.{Bool, true}
 use mathlib.Core.List.{List, [], _∷_, map}
-use Prim.Native.Nat.{ℕ, zero, suc, _+_, _*_, _/_, _%_, _^_, _≤_, _<_}
+use Prim.Native.Nat.{ℕ, zero, suc, _*_, _/_, _%_, _^_, _≤_, _<_}
 use native.Mathlib.Omega.{arith}
 use lib.ListN.{length, length-map}
 use lib.Dec.{eqb, leb}
 use borrow.Author.Tests.{eqb-true, leb-true, eq-eqb, le-leb}
-use Rattle.model.specs.Base.{if_then_else_, bit, sum, byteAt, number, AllBytes}
-use Rattle.model.specs.Step.{Media, State, Result, run, total, cycles, hits, clockAfter, stepped, freshBoard}
+use Rattle.model.specs.Base.{bit, sum, byteAt, number, AllBytes}
+use Rattle.model.specs.Step.{Media, State, run, total, cycles, hits, freshBoard}
 use Rattle.model.specs.Sheet.{maxRecords, isShaped, recordCount, recordsOf, stepOf, stepsOf}
-use Rattle.model.specs.BoardBytes.{clockOf, contentsOf, boardOf, boardBytes, soundPrefetch, soundBytes, sound}
-use Rattle.model.specs.Outcome.{Lent, LentBytes, Outcome, mediaOf, firstState, ran, outcomeBy, outcome}
+use Rattle.model.specs.BoardBytes.{clockOf, boardBytes, soundPrefetch, soundBytes, sound}
+use Rattle.model.specs.Outcome.{Lent, LentBytes, Outcome, mediaOf, firstState, ran, outcome}
 use Rattle.model.specs.Laws.Choice.{parts, and-true, bit≤1}
 use Rattle.model.specs.Laws.Bounds.{idles, cycles-fit, hits≤2}
-use Rattle.model.specs.Laws.Sound.{Sound, Stands, SoundClock, clockAfter-sound, fresh-sound}
+use Rattle.model.specs.Laws.Sound.{Stands, SoundClock, clockAfter-sound, fresh-sound}
 use Rattle.model.specs.Laws.SoundTest.{sound-true, true-sound}
 use Rattle.model.specs.Laws.Run.{All, run-all, run-length, run-sound, run-halves}
 use Rattle.model.specs.Laws.Codec.{ClockFits, number-below, clock-back, board-length, zero-byte, zero-word, force-byte, filling-byte, first-byte}
@@ -25,7 +25,6 @@ use Rattle.model.specs.declared.Clock.{Clock}
 use Rattle.model.specs.declared.Board.{Board}
 use Rattle.model.specs.declared.Answer.{Answer}
 use Rattle.model.specs.declared.Step.{Step}
-use Rattle.model.specs.declared.Verdict.the-variants.{Accepted}
 
 -- ---- soundness, of bytes
 

@@ -1,16 +1,16 @@
 -- What the records of a sheet bound: I + A + D and 19 I + 18 A + D for the total, and 32 bits for each step's cycles.
 use mathlib.Core.Path.{_≡_, refl}
-use mathlib.Core.Bool.{Bool, true, false, _||_}
+use mathlib.Core.Bool.{true, _||_}
 use mathlib.Core.List.{List, [], _∷_, map}
-use Prim.Native.Nat.{ℕ, zero, suc, _+_, _*_, _^_, _≤_, _<_}
+use Prim.Native.Nat.{ℕ, zero, suc, _+_, _*_, _≤_}
 use native.Mathlib.Omega.{arith}
 use lib.ListN.{length}
 use lib.Dec.{eqb}
 use borrow.Author.Tests.{eqb-true}
-use Rattle.model.specs.Base.{if_then_else_, bit, sum, number, AllBytes}
+use Rattle.model.specs.Base.{if_then_else_, bit, AllBytes}
 use Rattle.model.specs.Step.{cycles, clockAfter}
 use Rattle.model.specs.Sheet.{recordAt, recordsFrom, stepOf}
-use Rattle.model.specs.Alike.{instructionsIn, accessesIn, idleCyclesIn, Limits}
+use Rattle.model.specs.Alike.{Limits}
 use Rattle.model.specs.Laws.Choice.{choose, either}
 use Rattle.model.specs.Laws.Bounds.{Between, instructions, accesses, idles, step-between}
 use Rattle.model.specs.Laws.Codec.{number-below}

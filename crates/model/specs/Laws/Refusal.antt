@@ -1,17 +1,16 @@
 -- Number 0 exactly when no refusal's condition holds; a refused outcome has total 0 and leaves board, store and answers as lent.
-use mathlib.Core.Path.{_≡_, refl, sym, ap, _∙_}
-use mathlib.Core.Bool.{Bool, true, false, not, _&&_, _||_, true≢false, false≢true}
+use mathlib.Core.Path.{_≡_, refl, ap, _∙_}
+use mathlib.Core.Bool.{Bool, true, false, not, _||_}
 use mathlib.Core.Logic.{_≢_}
 use mathlib.Core.List.{List, [], _∷_}
-use Prim.Native.Nat.{ℕ, zero, suc, _+_, _*_, _≤_, _<_, min}
+use Prim.Native.Nat.{ℕ, zero, suc, _*_, _≤_, _<_, min}
 use native.Mathlib.Omega.{arith}
 use lib.ListN.{length, getD}
 use lib.Dec.{eqb, ltb}
-use borrow.Author.Tests.{not-true, not-false, le-ltb, lt-ltb, ltb-false}
-use Rattle.model.specs.Base.{if_then_else_}
-use Rattle.model.specs.Sheet.{isMarked, versionOf, isShaped, recordCount, faulty, firstOf, leastFaulty}
+use borrow.Author.Tests.{not-false, le-ltb, ltb-false}
+use Rattle.model.specs.Sheet.{isMarked, versionOf, isShaped, recordCount, firstOf}
 use Rattle.model.specs.BoardBytes.{sound}
-use Rattle.model.specs.Outcome.{Lent, Outcome, lengthsFit, faultIndex, verdict, refusalNumber, outcomeBy, outcome}
+use Rattle.model.specs.Outcome.{Lent, Outcome, lengthsFit, faultIndex, verdict, outcomeBy, outcome}
 use Rattle.model.specs.Laws.Choice.{choose, if-false, by-test}
 use Rattle.model.specs.declared.Refusal.{Refusal}
 use Rattle.model.specs.declared.Refusal.the-variants.{BadMark, BadVersion, BadShape, BadLengths, UnsoundBoard, ShortAnswers, FaultyRecord}

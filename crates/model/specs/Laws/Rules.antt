@@ -1,27 +1,25 @@
 -- Single rules of document 01 that its reader may look for, each as a law about the definitions: WAITCNT's bits, when a fetch hits, when
 -- it drains, what a restart leaves, when idle cycles change nothing, and who moves the force flag.
-use mathlib.Core.Path.{_≡_, refl, sym, ap, ap₂, _∙_}
-use mathlib.Core.Bool.{Bool, true, false, not, _&&_, true≢false, false≢true}
+use mathlib.Core.Path.{_≡_, refl, ap, ap₂, _∙_}
+use mathlib.Core.Bool.{Bool, true, false, not, _&&_}
 use mathlib.Core.Logic.{_≢_}
-use Prim.Native.Nat.{ℕ, zero, suc, _+_, _*_, _/_, _%_, _^_, _≤_}
+use Prim.Native.Nat.{ℕ, zero, suc, _/_, _%_, _≤_}
 use native.Mathlib.Omega.{arith}
 use lib.Dec.{eqb, ltb}
 use borrow.Author.Tests.{eqb-true, eq-eqb, ne-eqb, not-true, le-ltb}
 use Rattle.model.specs.Base.{if_then_else_, further, lowered}
 use Rattle.model.specs.Waitcnt.{Waits, written}
 use Rattle.model.specs.Wait.{window, inWindow, kindAt, romHalfCycles}
-use Rattle.model.specs.Prefetch.{capacity, newBuffer, drained, restartIn, restart, beatIn, startBeat, arrived, ended, ready, tick1, ticks, occupied, hit, fetched}
+use Rattle.model.specs.Prefetch.{capacity, drained, restartIn, restart, startBeat, arrived, ended, ready, tick1, ticks, occupied, hit, fetched}
 use Rattle.model.specs.Timing.{internal, disableBug, priceInsn}
-use Rattle.model.specs.DisableBug.{forceNextFetchNonseq}
 use Rattle.model.specs.Step.{setWaitcnt, clockAfter}
-use Rattle.model.specs.Laws.Choice.{choose, either, if-true, if-false, never, parts, tests, eqb-ne}
+use Rattle.model.specs.Laws.Choice.{choose, either, if-true, if-false, parts, eqb-ne}
 use Rattle.model.specs.declared.PrefetchBuffer.{PrefetchBuffer}
 use Rattle.model.specs.declared.Clock.{Clock}
 use Rattle.model.specs.declared.RomWindow.{RomWindow}
 use Rattle.model.specs.declared.Windowed.{Windowed}
 use Rattle.model.specs.declared.Windowed.the-variants.{In, Outside}
-use Rattle.model.specs.declared.AccessKind.the-variants.{Nonseq, Seq}
-use Rattle.model.specs.declared.IsaState.{IsaState}
+use Rattle.model.specs.declared.AccessKind.the-variants.{Nonseq}
 use Rattle.model.specs.declared.Step.{Step}
 use Rattle.model.specs.declared.Step.the-variants.{Read, Write, Waitcnt, Idle, Fetch, Restart, Instruction, Pc, Latch}
 

@@ -1,13 +1,10 @@
 -- A run goes step by step: run over xs ++ ys is run over ys after run over xs; it has one answer a step, and keeps what every step keeps.
-use mathlib.Core.Path.{_≡_, refl, sym, ap, _∙_}
-use mathlib.Core.Bool.{Bool, true, false}
+use mathlib.Core.Path.{_≡_, refl, ap, _∙_}
 use mathlib.Core.List.{List, [], _∷_, _++_}
-use Prim.Native.Nat.{ℕ, zero, suc, _+_, _%_, _<_, _≤_}
-use native.Mathlib.Omega.{arith}
+use Prim.Native.Nat.{ℕ, zero, suc, _+_}
 use lib.ListN.{length, set, length-set}
-use Rattle.model.specs.Base.{if_then_else_}
 use Rattle.model.specs.Waitcnt.{Waits}
-use Rattle.model.specs.Prefetch.{tick1, ticks, arrives, slot, filled}
+use Rattle.model.specs.Prefetch.{tick1, arrives, slot, filled}
 use Rattle.model.specs.Store.{Put, landed, puts, modeOf}
 use Rattle.model.specs.Step.{Media, State, Result, run, stepped, answer, halvesAfter, storeAfter}
 use Rattle.model.specs.Laws.Choice.{either}

@@ -1,17 +1,17 @@
 -- A sound prefetch buffer and a sound clock, as propositions, and that every operation and every step keeps them sound.
-use mathlib.Core.Path.{_≡_, refl, sym, ap, _∙_}
+use mathlib.Core.Path.{_≡_, refl, ap, _∙_}
 use mathlib.Core.Bool.{Bool, true, false, not, _&&_, true≢false, false≢true}
 use Prim.Native.Nat.{ℕ, zero, suc, _+_, _-_, _*_, _/_, _%_, _^_, _≤_, _<_}
 use native.Mathlib.Omega.{arith}
 use lib.Dec.{ltb, leb, eqb}
 use borrow.Author.Tests.{not-true}
-use Rattle.model.specs.Base.{if_then_else_, further, lowered}
+use Rattle.model.specs.Base.{further, lowered}
 use Rattle.model.specs.Waitcnt.{Waits, written, prefetchEnable}
 use Rattle.model.specs.Wait.{window, inWindow, kindAt, nonseqIf, romHalfCycles}
-use Rattle.model.specs.Prefetch.{capacity, emptied, newBuffer, drained, setEnabled, restartIn, restart, beatIn, startBeat, arrived, ended, withWait, advance, ready, tick1, ticks, occupied, hit, taken, fetched}
+use Rattle.model.specs.Prefetch.{capacity, emptied, newBuffer, setEnabled, restartIn, restart, beatIn, startBeat, arrived, ended, advance, ready, tick1, ticks, occupied, hit, taken, fetched}
 use Rattle.model.specs.Step.{waitsOf, withPrefetch, setWaitcnt, priced, romFetched, fetchedIn, codeFetched, clockAfter, freshBoard}
-use Rattle.model.specs.Laws.Choice.{choose, either, never, tests, eqb-ne, and-true-left, and-true-right, parts}
-use Rattle.model.specs.Laws.Window.{InRom, inWindow-true, window-in}
+use Rattle.model.specs.Laws.Choice.{choose, either, never, tests, and-true-left, and-true-right, parts}
+use Rattle.model.specs.Laws.Window.{InRom, window-in}
 use Rattle.model.specs.Laws.Bounds.{SmallWaits, romWaits-small}
 use Rattle.model.specs.Laws.Switch.{ready-switch, ticks-switch, fetched-switch, restart-switch, setEnabled-switch, codeFetched-switch}
 use Rattle.model.specs.declared.PrefetchBuffer.{PrefetchBuffer}

@@ -1,15 +1,15 @@
 -- The test of a sound prefetch buffer holds exactly of the sound ones.
-use mathlib.Core.Path.{_≡_, refl, sym, ap, ap₂, _∙_}
-use mathlib.Core.Bool.{Bool, true, false, not, _&&_, _||_, true≢false, false≢true}
-use Prim.Native.Nat.{ℕ, zero, suc, _+_, _-_, _*_, _%_, _^_, _≤_, _<_}
+use mathlib.Core.Path.{_≡_, refl, sym, ap, _∙_}
+use mathlib.Core.Bool.{Bool, true, false, not, _&&_, _||_, false≢true}
+use Prim.Native.Nat.{_+_, _-_, _*_, _%_, _^_, _≤_, _<_}
 use native.Mathlib.Omega.{arith}
-use lib.Dec.{eqb, leb, ltb}
+use lib.Dec.{eqb, leb}
 use borrow.Author.Tests.{eqb-true, leb-true, leb-false, eq-eqb, ne-eqb, le-leb, lt-leb, not-true}
-use Rattle.model.specs.Base.{if_then_else_, same}
+use Rattle.model.specs.Base.{same}
 use Rattle.model.specs.Wait.{inWindow}
 use Rattle.model.specs.Prefetch.{newBuffer}
 use Rattle.model.specs.BoardBytes.{soundPrefetch, soundBeat, soundRow, isZero}
-use Rattle.model.specs.Laws.Choice.{choose, by-test, if-true, if-false, never, tests, eqb-ne, parts, and-true-left, and-true-right, and-true, or-true-left, or-true-right, or-right}
+use Rattle.model.specs.Laws.Choice.{choose, by-test, if-true, if-false, tests, parts, and-true, or-true-left, or-true-right, or-right}
 use Rattle.model.specs.Laws.Window.{InRom, inWindow-true, true-inWindow}
 use Rattle.model.specs.Laws.Sound.{Sound, Busy, Stands}
 use Rattle.model.specs.declared.PrefetchBuffer.{PrefetchBuffer}

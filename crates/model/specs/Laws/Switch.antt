@@ -1,9 +1,9 @@
 -- Only a write to WAITCNT moves the prefetch switch: every other operation of the buffer keeps it.
-use mathlib.Core.Path.{_≡_, refl, sym, _∙_}
+use mathlib.Core.Path.{_≡_, refl, _∙_}
 use mathlib.Core.Bool.{Bool, true, false, not, _&&_}
-use Prim.Native.Nat.{ℕ, zero, suc, _+_, _/_, _%_, _^_}
+use Prim.Native.Nat.{ℕ, zero, suc, _+_}
 use lib.Dec.{ltb, leb}
-use Rattle.model.specs.Base.{if_then_else_, further, lowered}
+use Rattle.model.specs.Base.{further}
 use Rattle.model.specs.Waitcnt.{Waits}
 use Rattle.model.specs.Wait.{window, inWindow}
 use Rattle.model.specs.Prefetch.{capacity, setEnabled, restartIn, restart, beatIn, startBeat, arrived, ended, advance, ready, tick1, ticks, occupied, hit, taken, fetched}

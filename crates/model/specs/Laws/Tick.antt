@@ -1,7 +1,7 @@
 -- Idle cycles add up: IDLE 0 is the identity, and IDLE a then IDLE b is IDLE a + b, for the clock, the halfwords and the whole state.
 use mathlib.Core.Path.{_≡_, refl}
 use mathlib.Core.List.{List}
-use Prim.Native.Nat.{ℕ, zero, suc, _+_, _%_}
+use Prim.Native.Nat.{ℕ, zero, suc, _+_}
 use native.Mathlib.Nat.{zero-add, suc-add}
 use lib.ListN.{set}
 use Rattle.model.specs.Base.{if_then_else_}

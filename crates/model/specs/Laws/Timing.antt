@@ -3,7 +3,7 @@
 use mathlib.Core.Path.{_≡_, refl, sym, ap, ap₂, _∙_}
 use mathlib.Core.Bool.{Bool}
 use mathlib.Core.List.{List, [], _∷_, map, map-map}
-use Prim.Native.Nat.{ℕ, _+_}
+use Prim.Native.Nat.{ℕ}
 use Rattle.model.specs.Base.{sum}
 use Rattle.model.specs.Step.{Media, State, run, total, cycles, hits, clockAfter, stepped}
 use Rattle.model.specs.declared.Clock.{Clock}

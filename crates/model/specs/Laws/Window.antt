@@ -1,16 +1,15 @@
 -- An address has a ROM window exactly when it lies from 0x08000000 up to 0x0DFFFFFF.
 use mathlib.Core.Path.{_≡_, refl}
-use mathlib.Core.Bool.{Bool, true, false, true≢false, false≢true}
-use Prim.Native.Nat.{ℕ, _/_, _≤_, _<_}
+use mathlib.Core.Bool.{true, false, false≢true}
+use Prim.Native.Nat.{ℕ, _≤_, _<_}
 use native.Mathlib.Omega.{arith}
 use lib.Dec.{ltb}
-use Rattle.model.specs.Base.{if_then_else_}
 use Rattle.model.specs.Region.{page}
 use Rattle.model.specs.Wait.{window, isIn, inWindow}
 use Rattle.model.specs.Laws.Choice.{choose, tests}
 use Rattle.model.specs.declared.RomWindow.{RomWindow}
 use Rattle.model.specs.declared.Windowed.{Windowed}
-use Rattle.model.specs.declared.Windowed.the-variants.{In, Outside}
+use Rattle.model.specs.declared.Windowed.the-variants.{In}
 
 pub record InRom (a : ℕ) : Type 0 where
   pub least : 0x0800_0000 ≤ a

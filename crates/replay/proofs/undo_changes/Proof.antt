@@ -1,8 +1,6 @@
 -- `undo_changes` is safe and ends. The store keeps its length, and the measure is the changes that are left. Assumes nothing.
-use Prim.Native.Nat.{_-_}
 use mathlib.Core.Path.{_≡_}
 use lib.ListN.{length}
-use native.Mathlib.Omega.{arith}
 use borrow.Author.Needs.{needs}
 use Rattle.replay.proofs.undo_changes.Statement.{statement}
 use Rattle.replay.proofs.undo_changes.Tie as tie

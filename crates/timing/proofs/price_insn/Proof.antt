@@ -1,5 +1,5 @@
 -- `timing::price_insn` meets its contract: a fetch costs at most 18, so that the sums fit, and each result is the definition's. Assumes nothing.
-use mathlib.Core.Path.{_≡_, ap, ap₂, _∙_}
+use mathlib.Core.Path.{ap, ap₂, _∙_}
 use mathlib.Core.Bool.{Bool}
 use Prim.Native.Nat.{ℕ, _+_}
 use Rattle.model.specs.Base.{bit}

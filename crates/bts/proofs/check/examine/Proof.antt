@@ -1,6 +1,6 @@
 -- `examine` meets its contract: each return decides the test that it stands behind, and those before it. Assumes nothing.
 use mathlib.Core.Path.{_≡_, sym, ap, _∙_}
-use mathlib.Core.Bool.{Bool, not}
+use mathlib.Core.Bool.{not}
 use Prim.Native.Nat.{ℕ, _*_}
 use lib.ListN.{length}
 use borrow.Author.Tests.{eq-eqb, ne-eqb, lt-ltb, le-ltb, not-false}

@@ -1,7 +1,6 @@
 -- `lengths_fit` meets its contract: the sizes are tested before they are added, so that no sum wraps. Assumes nothing.
 use Rattle.bts.specs.Verdicts.{sized, too-long, long-enough}
 use native.Mathlib.Omega.{arith}
-use borrow.Author.Needs.{needs}
 use Rattle.bts.proofs.check.lengths_fit.Statement.{statement}
 use Rattle.bts.proofs.check.lengths_fit.Tie as tie
 

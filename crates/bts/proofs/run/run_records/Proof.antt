@@ -1,6 +1,6 @@
 -- `run_records` meets its contract: each turn does one record more, and the rest, run from what it left, completes the whole. The measure is the records left. Assumes nothing.
-use mathlib.Core.Path.{_≡_, refl, sym, ap, _∙_}
-use Prim.Native.Nat.{ℕ, _+_, _-_, _*_}
+use mathlib.Core.Path.{refl, sym, ap, _∙_}
+use Prim.Native.Nat.{_+_, _-_, _*_}
 use borrow.Rule.Slice.PartMut.{mid-len}
 use Rattle.model.specs.Sheet.{stepOf}
 use Rattle.bts.specs.Parts.{mediaFrom, stateFrom}

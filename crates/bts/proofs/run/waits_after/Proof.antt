@@ -1,5 +1,5 @@
 -- `waits_after` meets its contract: the register is as it was, or its waits are built anew. Assumes nothing.
-use mathlib.Core.Path.{_≡_, sym, ap, ap₂, _∙_}
+use mathlib.Core.Path.{ap, _∙_}
 use Rattle.model.specs.Waitcnt.{romWaits}
 use borrow.Author.Needs.{needs}
 use Rattle.bts.proofs.run.waits_after.Statement.{statement}

@@ -1,5 +1,4 @@
 -- `count_stores` meets its contract: the region decides which counter moves. Assumes nothing.
-use mathlib.Core.Path.{_≡_, sym, ap, ap₂, _∙_}
 use borrow.Author.Needs.{needs}
 use Rattle.bts.proofs.step.count_stores.Statement.{statement}
 use Rattle.bts.proofs.step.count_stores.Tie as tie

@@ -1,5 +1,5 @@
 -- `data_price` meets its contract: the waits are those of the register. Assumes nothing.
-use mathlib.Core.Path.{_≡_, sym, ap, ap₂, _∙_}
+use mathlib.Core.Path.{ap₂, _∙_}
 use Prim.Native.Nat.{ℕ}
 use Rattle.model.specs.Region.{decode}
 use Rattle.model.specs.Waitcnt.{Waits}

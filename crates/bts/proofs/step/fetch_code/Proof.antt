@@ -1,5 +1,5 @@
 -- `fetch_code` meets its contract: each return knows the address's window and the instruction set. Assumes nothing.
-use mathlib.Core.Path.{_≡_, sym, ap, ap₂, _∙_}
+use mathlib.Core.Path.{sym, _∙_}
 use borrow.Author.Needs.{needs}
 use Rattle.bts.proofs.step.fetch_code.Statement.{statement}
 use Rattle.bts.proofs.step.fetch_code.Tie as tie

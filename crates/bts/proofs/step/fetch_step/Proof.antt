@@ -1,11 +1,9 @@
 -- `fetch_step` meets its contract: what was found says whether the buffer hit. Assumes nothing.
-use mathlib.Core.Path.{_≡_, sym, ap, ap₂, _∙_}
+use mathlib.Core.Path.{sym, ap, _∙_}
 use Rattle.model.specs.Step.{withPrefetch}
 use Rattle.prefetch.specs.declared.Fetched.{Fetched}
-use Rattle.prefetch.specs.Found.{found}
 use Rattle.bts.specs.Parts.{fetch-hits, fetch-misses}
 use Rattle.model.specs.declared.Clock.{Clock}
-use Rattle.bts.specs.declared.step.Stepped.{Stepped}
 use borrow.Author.Needs.{needs}
 use Rattle.bts.proofs.step.fetch_step.Statement.{statement}
 use Rattle.bts.proofs.step.fetch_step.Tie as tie

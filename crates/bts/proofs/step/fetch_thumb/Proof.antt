@@ -1,5 +1,5 @@
 -- `fetch_thumb` meets its contract: each return knows whether the half hits. Assumes nothing.
-use mathlib.Core.Path.{_≡_, sym, ap, ap₂, _∙_}
+use mathlib.Core.Path.{sym, _∙_}
 use borrow.Author.Needs.{needs}
 use Rattle.bts.proofs.step.fetch_thumb.Statement.{statement}
 use Rattle.bts.proofs.step.fetch_thumb.Tie as tie

@@ -1,5 +1,4 @@
 -- `read_step` meets its contract: the value is the load, the cycles the data price. Assumes nothing.
-use mathlib.Core.Path.{_≡_, sym, ap, ap₂, _∙_}
 use borrow.Author.Needs.{needs}
 use Rattle.bts.proofs.step.read_step.Statement.{statement}
 use Rattle.bts.proofs.step.read_step.Tie as tie

@@ -1,5 +1,5 @@
 -- `restarted` meets its contract: the waits are those of the register. Assumes nothing.
-use mathlib.Core.Path.{_≡_, sym, ap, ap₂, _∙_}
+use mathlib.Core.Path.{ap, _∙_}
 use Rattle.model.specs.Waitcnt.{Waits}
 use Rattle.model.specs.Prefetch.{restart}
 use Rattle.model.specs.Step.{withPrefetch}

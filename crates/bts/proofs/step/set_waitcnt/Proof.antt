@@ -1,5 +1,5 @@
 -- `set_waitcnt` meets its contract: each field is what its call ensures. Assumes nothing.
-use mathlib.Core.Path.{_≡_, sym, ap, ap₂, _∙_}
+use mathlib.Core.Path.{ap, _∙_}
 use mathlib.Core.Bool.{Bool}
 use Rattle.model.specs.Waitcnt.{prefetchEnable}
 use Rattle.model.specs.Prefetch.{setEnabled}

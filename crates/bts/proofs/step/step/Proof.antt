@@ -1,5 +1,5 @@
 -- `step` meets its contract: each arm is what its call ensures, for the step that it matched. Assumes nothing.
-use mathlib.Core.Path.{_≡_, refl, sym, ap, ap₂, _∙_}
+use mathlib.Core.Path.{refl, ap, _∙_}
 use Rattle.model.specs.Step.{countStore}
 use Rattle.model.specs.declared.Clock.{Clock}
 use Rattle.model.specs.declared.Contents.{Contents}

@@ -1,5 +1,5 @@
 -- `write_step` meets its contract: the store is what the store leaf ensures, and its count goes to the region's counter. Assumes nothing.
-use mathlib.Core.Path.{_≡_, sym, ap, ap₂, _∙_}
+use mathlib.Core.Path.{ap₂, _∙_}
 use Prim.Native.Nat.{ℕ}
 use Rattle.bts.specs.Parts.{write-contents}
 use Rattle.bts.specs.Parts as parts

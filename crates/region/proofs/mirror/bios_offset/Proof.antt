@@ -1,7 +1,6 @@
 -- `region::mirror::bios_offset` meets its contract: each branch decides the definition's test. Assumes nothing.
 use borrow.Author.Tests.{le-ltb, lt-ltb}
 use Rattle.model.specs.Mirror.{biosOffset}
-use borrow.Author.Needs.{needs}
 use Rattle.region.proofs.mirror.bios_offset.Statement.{statement}
 use Rattle.region.proofs.mirror.bios_offset.Tie as tie
 

@@ -1,7 +1,6 @@
 -- Each mask of `arm_likely_i_cycles_no_pc` tests the bit fields of its definition: one law on masks, five times. Assumes nothing.
 use Rattle.model.specs.DisableBug.{armInternal}
 use Rattle.timing.proofs.Masks.{last, keep, mask-test}
-use borrow.Author.Needs.{needs}
 use Rattle.timing.proofs.disable_bug.arm_likely_i_cycles_no_pc.Statement.{statement}
 use Rattle.timing.proofs.disable_bug.arm_likely_i_cycles_no_pc.Tie as tie
 

@@ -1,7 +1,6 @@
 -- Each mask of `thumb_likely_i_cycles_no_pc`, on the high byte, tests a bit field of its definition: one law on masks, five times. Assumes nothing.
 use Rattle.model.specs.DisableBug.{thumbInternal}
 use Rattle.timing.proofs.Masks.{last, mask-fields}
-use borrow.Author.Needs.{needs}
 use Rattle.timing.proofs.disable_bug.thumb_likely_i_cycles_no_pc.Statement.{statement}
 use Rattle.timing.proofs.disable_bug.thumb_likely_i_cycles_no_pc.Tie as tie
 
