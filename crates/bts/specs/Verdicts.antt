@@ -8,12 +8,12 @@ use native.Mathlib.Omega.{arith}
 use lib.ListN.{length}
 use lib.Dec.{eqb, ltb, leb}
 use borrow.Author.Tests.{eqb-true, leb-true, ltb-true, not-true, not-false}
-use Rattle.model.specs.Region.{biosSize, ewramSize, iwramSize, ioSize, paletteSize, vramSize, oamSize, romSize, sramSize}
 use Rattle.model.specs.Load.{lengthsSum}
 use Rattle.model.specs.Sheet.{isMarked, versionOf, isShaped, maxRecords, recordCount}
 use Rattle.model.specs.Base.{AllBytes}
 use Rattle.model.specs.BoardBytes.{clockOf, sound}
 use Rattle.model.specs.Outcome.{Lent, sizesFit, lengthsFit, faultIndex, verdict, refusalIndex}
+use Rattle.model.specs.Laws.Places.{sizesSmall, Sized, small-sized}
 use Rattle.model.specs.Laws.Choice.{choose, if-true, if-false, parts}
 use Rattle.model.specs.Laws.Sound.{SoundClock}
 use Rattle.model.specs.Laws.Codec.{sound-formed}
@@ -79,34 +79,8 @@ shaped s e =
     let long : eqb (length s) (8 + 12 * recordCount s) ≡ true = search parts in
     record { few = leb-true (recordCount s) maxRecords few; long = eqb-true (length s) (8 + 12 * recordCount s) long }
 
-pub record Sized (l : Lengths) : Type 0 where
-  pub ewram : l .ewram ≤ ewramSize
-  pub iwram : l .iwram ≤ iwramSize
-  pub io : l .io ≤ ioSize
-  pub palette : l .palette ≤ paletteSize
-  pub vram : l .vram ≤ vramSize
-  pub oam : l .oam ≤ oamSize
-  pub sram : l .sram ≤ sramSize
-
--- the sizes, before they are added
-abbrev pub sizesSmall : Lengths → ℕ → ℕ → Bool
-sizesSmall l bios rom =
-    leb bios biosSize && leb rom romSize && leb (l .ewram) ewramSize && leb (l .iwram) iwramSize && leb (l .io) ioSize
-    && leb (l .palette) paletteSize && leb (l .vram) vramSize && leb (l .oam) oamSize && leb (l .sram) sramSize
-
-pub sized : (l : Lengths) (bios rom : ℕ)
-    → not (sizesSmall l bios rom) ≡ false → Sized l
-sized l bios rom h =
-    let e : sizesSmall l bios rom ≡ true = not-false (sizesSmall l bios rom) h in
-    record {
-      ewram = leb-true (l .ewram) ewramSize (search parts depth 9);
-      iwram = leb-true (l .iwram) iwramSize (search parts depth 9);
-      io = leb-true (l .io) ioSize (search parts depth 9);
-      palette = leb-true (l .palette) paletteSize (search parts depth 9);
-      vram = leb-true (l .vram) vramSize (search parts depth 9);
-      oam = leb-true (l .oam) oamSize (search parts depth 9);
-      sram = leb-true (l .sram) sramSize (search parts depth 9);
-    }
+pub sized : (l : Lengths) (bios rom : ℕ) → not (sizesSmall l bios rom) ≡ false → Sized l
+sized l bios rom h = small-sized l bios rom (not-false (sizesSmall l bios rom) h)
 
 pub too-long : (l : Lengths) (store bios rom : ℕ) → not (sizesSmall l bios rom) ≡ true → false ≡ sizesFit l store bios rom
 unfolding sizesFit

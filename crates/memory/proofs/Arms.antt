@@ -5,13 +5,13 @@ use mathlib.Core.Bool.{Bool, true, false, not}
 use Prim.Native.Nat.{ℕ, _/_, _%_, _<_}
 use native.Mathlib.Omega.{arith}
 use lib.Dec.{ltb}
-use borrow.Author.Tests.{lt-ltb, ltb-true}
+use borrow.Author.Tests.{lt-ltb}
 use Rattle.model.specs.Base.{if_then_else_}
 use Rattle.model.specs.Region.{biosSize, vramSize, decode}
 use Rattle.model.specs.Mirror.{vramOffset}
 use Rattle.model.specs.Video.{isObjVram}
 use Rattle.model.specs.Load.{isSram}
-use Rattle.model.specs.Laws.Choice.{choose}
+use Rattle.model.specs.Laws.Places.{vram-within}
 use Rattle.model.specs.declared.Region.{Region}
 use Rattle.memory.specs.OpenBus.{latching, protectedRead}
 use Rattle.memory.specs.Video.{vramTarget, vramClass, doubled, fillsHalfword, byteAction}
@@ -73,15 +73,7 @@ filled-with t v {x} {h} s p q =
     let u : h / 256 ≡ v = omega arith in
     (omega arith, rw u (omega arith))
 
--- a place in VRAM lies within its 96 KiB
-pub vram-within : (a : ℕ) → vramOffset a < vramSize
-unfolding vramOffset
-vram-within a =
-    choose (λ (i : ℕ). i < vramSize) (ltb (a % 0x20000) 0x10000)
-    (λ e. omega (arith, ltb-true (a % 0x20000) 0x10000 e))
-    (λ e. omega arith)
-
--- so it is classified
+-- a place in VRAM lies within its 96 KiB, so it is classified
 pub vram-class : (mode a : ℕ) {i m : ℕ} {x y : VramTarget} → i ≡ vramOffset a → m ≡ mode → x ≡ vramClass i m → x ≡ y
     → y ≡ Within (vramTarget (isObjVram mode (vramOffset a)))
 unfolding vramClass

@@ -3,6 +3,7 @@ pub mod Choice
 pub mod Rules
 pub mod Stores
 pub mod HalfStores
+pub mod Places
 pub mod Figures
 pub mod Window
 pub mod Bounds

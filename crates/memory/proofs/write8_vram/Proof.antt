@@ -3,7 +3,8 @@ use mathlib.Core.Path.{_≡_, _∙_}
 use mathlib.Core.Bool.{Bool, true, false}
 use native.Mathlib.Omega.{arith}
 use Rattle.model.specs.Store.{modeOf}
-use Rattle.memory.proofs.Arms.{vram-within, vram-class, vram-fills}
+use Rattle.memory.proofs.Arms.{vram-class, vram-fills}
+use Rattle.model.specs.Laws.Places.{vram-within}
 use borrow.Author.Needs.{needs}
 use Rattle.memory.proofs.write8_vram.Statement.{statement}
 use Rattle.memory.proofs.write8_vram.Tie as tie
