@@ -13,14 +13,14 @@ use Rattle.model.specs.Video.{isObjVram}
 use Rattle.model.specs.Load.{isSram}
 use Rattle.model.specs.Laws.Places.{vram-within}
 use Rattle.model.specs.declared.Region.{Region}
-use Rattle.memory.specs.OpenBus.{latching, protectedRead}
-use Rattle.memory.specs.Video.{vramTarget, vramClass, doubled, fillsHalfword, byteAction}
-use Rattle.memory.specs.declared.openbus.ProtectedRead.the-variants.{Latched, Unprotected}
-use Rattle.memory.specs.declared.video.VideoTarget.{VideoTarget}
-use Rattle.memory.specs.declared.video.VideoWriteAction.{VideoWriteAction}
-use Rattle.memory.specs.declared.video.VideoWriteAction.the-variants.{Store, ExpandByteToHalfword, Ignore, Reject}
-use Rattle.memory.specs.declared.video.VramTarget.{VramTarget}
-use Rattle.memory.specs.declared.video.VramTarget.the-variants.{Within}
+use Rattle.openbus.specs.OpenBus.{latching, protectedRead}
+use Rattle.video.specs.Video.{vramTarget, vramClass, doubled, fillsHalfword, byteAction}
+use Rattle.openbus.specs.declared.ProtectedRead.the-variants.{Latched, Unprotected}
+use Rattle.video.specs.declared.VideoTarget.{VideoTarget}
+use Rattle.video.specs.declared.VideoWriteAction.{VideoWriteAction}
+use Rattle.video.specs.declared.VideoWriteAction.the-variants.{Store, ExpandByteToHalfword, Ignore, Reject}
+use Rattle.video.specs.declared.VramTarget.{VramTarget}
+use Rattle.video.specs.declared.VramTarget.the-variants.{Within}
 
 -- the test of the bus of 8 bits, as the code makes it
 pub sram-test : (a : ℕ) {r : Region} {t u : Bool} → r ≡ decode a → t ≡ isSram r → t ≡ u → isSram (decode a) ≡ u

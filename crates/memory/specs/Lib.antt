@@ -1,3 +1,1 @@
 pub mod Bus
-pub mod Video
-pub mod OpenBus

@@ -9,6 +9,7 @@ use openbus::OpenBusState;
 use openbus::ProtectedRead;
 use parts::Part;
 use parts::byte_in;
+use parts::lane;
 use parts::put;
 use parts::put_half;
 use parts::read_slice;
@@ -28,18 +29,15 @@ ghost use mathlib.Core.Path.{_≡_};
 ghost use mathlib.Core.List.{[]};
 ghost use Prim.Native.Nat.{_+_, _≤_, _<_};
 ghost use lib.ListN.{length};
-ghost use Rattle.model.specs.Base.{if_then_else_, bit, byteOf};
+ghost use Rattle.model.specs.Base.{if_then_else_, bit};
 ghost use Rattle.model.specs.Mirror.{sramOffset};
 ghost use Rattle.model.specs.Load.{lengthsSum, sramPart, biosByte, sramByte, isSram, load8, load16, load32, load};
 ghost use Rattle.model.specs.Store.{landed, put, putHalf, target, targetIn, modeOf, puts8At, puts8, puts16, puts32, puts, videoCount, counted};
 ghost use Rattle.model.specs.declared.Region.the-variants.{Vram};
 ghost use Rattle.model.specs.declared.AccessSize.the-variants.{Byte, Half, Word};
-ghost use Rattle.memory.specs.Bus.{busFrom, partOf};
-ghost use Rattle.memory.specs.Video.{fillsHalfword};
-
-pub mod openbus;
-mod parts;
-pub mod video;
+ghost use Rattle.memory.specs.Bus.{busFrom};
+ghost use Rattle.parts.specs.Part.{partOf};
+ghost use Rattle.video.specs.Video.{fillsHalfword};
 
 // A counter stops at its greatest number.
 pub fn saturating_add(a: u64, b: u64) -> u64
@@ -49,19 +47,6 @@ pub fn saturating_add(a: u64, b: u64) -> u64
         a + b
     } else {
         0xFFFF_FFFF_FFFF_FFFF
-    }
-}
-
-// Byte `k` of a number: what rotating it right by 8 * k brings lowest.
-fn lane(value: u32, k: u32) -> u8
-    requires { ⌜ k < 4 ⌝ }
-    ensures { λ r. ⌜ r ≡ byteOf k value ⌝ }
-{
-    match k {
-        0 => (value % 256) as u8,
-        1 => (value / 0x100 % 256) as u8,
-        2 => (value / 0x1_0000 % 256) as u8,
-        _ => (value / 0x100_0000 % 256) as u8,
     }
 }
 

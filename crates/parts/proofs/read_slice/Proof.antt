@@ -1,0 +1,18 @@
+-- `parts::read_slice` meets its contract: past the end the definition gives 0. Assumes nothing.
+use mathlib.Core.Path.{sym}
+use lib.ListN.{List·getD-eq-default}
+use borrow.Author.Needs.{needs}
+use Rattle.parts.proofs.read_slice.Statement.{statement}
+use Rattle.parts.proofs.read_slice.Tie as tie
+
+shared-slice-read-result : tie.Need-shared-slice-read-result
+shared-slice-read-result c = search needs
+
+returns : tie.Need-returns
+returns c = search needs
+
+returns-2 : tie.Need-returns-2
+returns-2 c = sym (List·getD-eq-default (c .before .args .buf .now) 0 (c .if1 .left))
+
+pub read-slice-spec : {M : Type 1} → statement M
+read-slice-spec = tie.close (tie.spec shared-slice-read-result returns returns-2)
