@@ -1,10 +1,9 @@
 // bench: prices a sheet. It reads the sheet from standard input, runs it on a fresh board over zeroed memories without BIOS or ROM,
 // and writes a line for each record (index, cycles, value, hits, prefetch count, force flag) and the total, or the refusal.
+use board::put_board;
 use libc::STDIN_FILENO;
 use libc::STDOUT_FILENO;
 use model::Board;
-use records::board::put_board;
-use records::le;
 ghost use Prim.Native.Nat.{_+_, _*_, _≤_};
 ghost use lib.ListN.{length};
 

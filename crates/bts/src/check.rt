@@ -2,7 +2,6 @@
 use model::Lengths;
 use model::Refusal;
 use model::Verdict;
-use records::board;
 use records::sheet;
 ghost use mathlib.Core.Path.{_≡_};
 ghost use lib.ListN.{length};

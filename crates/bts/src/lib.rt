@@ -5,7 +5,6 @@ mod step;
 
 use model::Lengths;
 use model::Verdict;
-use records::board;
 use records::sheet;
 ghost use mathlib.Core.Path.{_≡_};
 ghost use Rattle.model.specs.Outcome.{verdict, outcomeBy, outcome};

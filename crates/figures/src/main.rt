@@ -1,7 +1,6 @@
 // figures: runs the worked figures that are not theorems, those of document 01 and those in the comments of the Rust, and writes
 // what the run answers. The file `stdout` beside src/ has what they must be.
 use libc::STDOUT_FILENO;
-use records::le;
 ghost use Prim.Native.Nat.{_+_, _*_, _≤_, _<_};
 ghost use mathlib.Core.Path.{_≡_};
 ghost use lib.ListN.{length};

@@ -1,6 +1,6 @@
 // An answer's 12 bytes. From document 01, "Answer".
-use crate::le::bit;
-use crate::le::put_pair;
+use le::bit;
+use le::put_pair;
 use model::Answer;
 ghost use mathlib.Core.Path.{_≡_};
 ghost use lib.ListN.{length};

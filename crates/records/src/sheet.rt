@@ -1,8 +1,8 @@
 // A sheet: its header, its records, the steps they stand for, and the faults of a record. From document 01, "Sheet" and the
 // table of kinds.
-use crate::le::byte_at;
-use crate::le::half;
-use crate::le::read32;
+use le::byte_at;
+use le::half;
+use le::read32;
 use model::AccessSize;
 use model::IsaState;
 use model::SheetRecord;

@@ -5,7 +5,7 @@ use Prim.Native.Nat.{_%_}
 use native.Mathlib.Omega.{arith}
 use lib.ListN.{length-set}
 use borrow.Author.Needs.{needs}
-use Rattle.records.proofs.Laws.{begin, next, stored, flag, written}
+use Rattle.le.proofs.Written.{begin, next, stored, flag, written}
 use Rattle.records.proofs.answer.put_answer.Statement.{statement}
 use Rattle.records.proofs.answer.put_answer.Tie as tie
 

@@ -3,7 +3,7 @@ use Prim.Native.Nat.{_-_}
 use native.Mathlib.Omega.{arith}
 use borrow.Author.Needs.{needs}
 use Rattle.model.specs.Sheet.{kindFault}
-use Rattle.records.proofs.Laws.{Sought, none-sought, found, passed, all-sought}
+use Rattle.records.proofs.Search.{Sought, none-sought, found, passed, all-sought}
 use Rattle.records.proofs.sheet.first_kind_fault.Statement.{statement}
 use Rattle.records.proofs.sheet.first_kind_fault.Tie as tie
 
