@@ -67,13 +67,13 @@ pub fn set_enabled(p: PrefetchBuffer, enable: bool) -> PrefetchBuffer
 pub fn restart(p: PrefetchBuffer, addr: u32, waits: [[u8; 2]; 3]) -> PrefetchBuffer
     ensures { λ r. ⌜ r ≡ def.restart waits p addr ⌝ }
 {
+    let mut q = drain(p);
     if !p.enabled {
-        return drain(p);
+        return q;
     }
     let Windowed::In(window) = waits::window_from_addr(addr) else {
-        return drain(p);
+        return q;
     };
-    let mut q = drain(p);
     q.next_addr = addr / 2 * 2;
     q.first_beat = true;
     q.filling = true;
@@ -141,15 +141,22 @@ fn arrive(p: PrefetchBuffer) -> PrefetchBuffer
     requires { ⌜ p .count < 8 ⌝ }
     ensures { λ r. ⌜ r ≡ def.arrived p ⌝ }
 {
-    let mut q = p;
-    if p.count == 0 {
-        q.head_addr = p.next_addr;
+    let next_addr = std::num::wrapping_add_u32(p.next_addr, 2);
+    let head_addr = if p.count == 0 {
+        p.next_addr
+    } else {
+        p.head_addr
+    };
+    PrefetchBuffer {
+        head: p.head,
+        count: p.count + 1,
+        next_addr,
+        wait_left: 0,
+        head_addr,
+        enabled: p.enabled,
+        filling: false,
+        first_beat: p.first_beat,
     }
-    q.count = p.count + 1;
-    q.next_addr = std::num::wrapping_add_u32(p.next_addr, 2);
-    q.wait_left = 0;
-    q.filling = false;
-    q
 }
 
 // The beat in flight ends, and the next one starts until the buffer is full.
@@ -185,9 +192,16 @@ fn run_beat(
     ensures { λ r. ⌜ (r ≡ def.ticks waits step p) × (now (halves .exit) ≡ def.filled (load.romHalfword (now (rom .entry))) waits step p (now (halves .entry))) ⌝ }
 {
     if step < p.wait_left {
-        let mut q = p;
-        q.wait_left = p.wait_left - step;
-        return q;
+        return PrefetchBuffer {
+            head: p.head,
+            count: p.count,
+            next_addr: p.next_addr,
+            wait_left: p.wait_left - step,
+            head_addr: p.head_addr,
+            enabled: p.enabled,
+            filling: p.filling,
+            first_beat: p.first_beat,
+        };
     }
     let slot = (p.head + p.count) % PREFETCH_CAPACITY;
     halves[slot] = rom_half(rom, p.next_addr);
@@ -252,14 +266,18 @@ fn take(p: PrefetchBuffer) -> PrefetchBuffer
     requires { ⌜ (p .head < 8) × (1 ≤ p .count) ⌝ }
     ensures { λ r. ⌜ r ≡ def.taken p ⌝ }
 {
-    let mut q = p;
-    q.head = (p.head + 1) % PREFETCH_CAPACITY;
-    q.count = p.count - 1;
-    q.head_addr = std::num::wrapping_add_u32(p.head_addr, 2);
-    if q.count == 0 {
-        q.head_addr = 0;
+    let next = std::num::wrapping_add_u32(p.head_addr, 2);
+    let head_addr = if p.count == 1 { 0 } else { next };
+    PrefetchBuffer {
+        head: (p.head + 1) % PREFETCH_CAPACITY,
+        count: p.count - 1,
+        next_addr: p.next_addr,
+        wait_left: p.wait_left,
+        head_addr,
+        enabled: p.enabled,
+        filling: p.filling,
+        first_beat: p.first_beat,
     }
-    q
 }
 
 // The buffer after a fetch: its head is taken on a hit. A miss drains it, but not when it is off or empty.

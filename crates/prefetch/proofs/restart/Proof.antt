@@ -11,7 +11,7 @@ drain-requires c κs = search needs
 
 returns : tie.Need-returns
 unfolding restart
-returns c = c .drain .ensures ∙ simp (not-true (c .before .before .before .args .p .enabled) (c .before .if1 .taken))
+returns c = c .before .before .drain .ensures ∙ simp (not-true (c .before .before .before .args .p .enabled) (c .if1 .taken))
 
 window-from-addr-requires : tie.Need-window-from-addr-requires
 window-from-addr-requires c κs = search needs
@@ -22,18 +22,12 @@ enum-known-window c = search needs
 enum-told : tie.Need-enum-told
 enum-told c = search needs
 
-drain-requires-2 : tie.Need-drain-requires-2
-drain-requires-2 c κs = search needs
-
 returns-2 : tie.Need-returns-2
 unfolding restart
 returns-2 c =
-    let d = c .before .before .before in
-    c .drain2 .ensures
-    ∙ simp (not-false (d .before .before .before .args .p .enabled) (d .before .if1 .left), sym (d .window-from-addr .ensures) ∙ c .before .enum-told .given .1)
-
-drain-requires-3 : tie.Need-drain-requires-3
-drain-requires-3 c κs = search needs
+    let d = c .before .before in
+    d .before .before .before .drain .ensures
+    ∙ simp (not-false (d .before .before .before .before .args .p .enabled) (d .before .if1 .left), sym (d .window-from-addr .ensures) ∙ c .enum-told .given .1)
 
 mul-q : tie.Need-mul-q
 mul-q c = search needs
@@ -44,11 +38,11 @@ rom-half-cycles-requires c κs = search needs
 returns-3 : tie.Need-returns-3
 unfolding restart
 returns-3 c =
-    let d = c .before .before .before .before .before in
+    let d = c .before .before .before .before in
     simp (
-      not-false (d .before .before .before .args .p .enabled) (d .before .if1 .left),
-      sym (d .window-from-addr .ensures) ∙ c .before .before .before .window .given .1,
-      c .before .drain3 .ensures,
+      not-false (d .before .before .before .before .args .p .enabled) (d .before .if1 .left),
+      sym (d .window-from-addr .ensures) ∙ c .before .before .window .given .1,
+      d .before .before .before .drain .ensures,
       c .rom-half-cycles .ensures,
     )
 
@@ -61,9 +55,7 @@ restart-spec =
     window-from-addr-requires
     enum-known-window
     enum-told
-    drain-requires-2
     returns-2
-    drain-requires-3
     mul-q
     rom-half-cycles-requires
     returns-3)

@@ -6,8 +6,8 @@ use Rattle.model.specs.Laws.Beats.{ticks-within, filled-within, ticks-beat, fil
 use Rattle.prefetch.proofs.run_beat.Statement.{statement}
 use Rattle.prefetch.proofs.run_beat.Tie as tie
 
-sub-q : tie.Need-sub-q
-sub-q c = search needs
+sub-t8 : tie.Need-sub-t8
+sub-t8 c = search needs
 
 returns : tie.Need-returns
 returns c =
@@ -44,7 +44,7 @@ pub run-beat-spec : {M : Type 1} → statement M
 run-beat-spec =
     tie.close
     (tie.spec
-    sub-q
+    sub-t8
     returns
     add-slot
     rom-half-requires
