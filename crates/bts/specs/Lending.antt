@@ -6,7 +6,7 @@ use Rattle.model.specs.Step.{State, total}
 use Rattle.model.specs.Sheet.{recordCount}
 use Rattle.model.specs.BoardBytes.{clockOf, halvesFrom, contentsOf, boardBytes}
 use Rattle.model.specs.Outcome.{Lent, Outcome, mediaOf, firstState, ran, verdict, refusalNumber, refusalIndex, outcomeBy, outcome}
-use Rattle.bts.specs.Parts.{stateFrom}
+use Rattle.step.specs.Parts.{stateFrom}
 use Rattle.bts.specs.Progress.{Ended}
 use Rattle.model.specs.declared.Clock.{Clock}
 use Rattle.model.specs.declared.Contents.{Contents}

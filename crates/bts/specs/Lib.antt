@@ -1,6 +1,4 @@
-pub mod Idle
 pub mod Progress
-pub mod Parts
 pub mod Whole
 pub mod Turning
 pub mod Lending

@@ -10,7 +10,8 @@ use Rattle.model.specs.Step.{Media, State, run, stepped, answer, cycles}
 use Rattle.model.specs.Sheet.{recordAt, stepOf}
 use Rattle.model.specs.BoardBytes.{answerBytes, answersBytes}
 use Rattle.model.specs.Laws.Run.{run-store}
-use Rattle.bts.specs.Parts.{stateFrom, Turns}
+use Rattle.step.specs.Parts.{stateFrom}
+use Rattle.bts.specs.Whole.{Turns}
 use Rattle.bts.specs.Progress.{Progress, turned, answers-length}
 use Rattle.model.specs.declared.Step.{Step}
 use Rattle.bts.specs.declared.run.Turned.{Turned}

@@ -8,18 +8,27 @@ use Rattle.model.specs.Waitcnt.{Waits, romWaits}
 use Rattle.model.specs.Prefetch.{ticks, filled}
 use Rattle.model.specs.Load.{romHalfword}
 use Rattle.model.specs.BoardBytes.{answerBytes}
-use Rattle.model.specs.Step.{Media, State, busOf, withPrefetch, clockAfter, halvesAfter, storeAfter, value, cycles, hits, answer}
+use Rattle.model.specs.Step.{Media, State, busOf, withPrefetch, clockAfter, contentsAfter, halvesAfter, storeAfter, value, cycles, hits, answer}
 use Rattle.model.specs.Laws.Bounds.{SmallWaits, romWaits-small}
 use Rattle.model.specs.Laws.Sound.{Sound, SoundClock, clockAfter-sound}
 use Rattle.model.specs.Laws.RomLoad.{filled-rom}
-use Rattle.bts.specs.Idle.{idleOf, clockBefore, clock-whole, halves-whole, before-sound}
-use Rattle.bts.specs.Parts.{steppedOf, Turns}
+use Rattle.step.specs.Idle.{idleOf, clockBefore, clock-whole, halves-whole, before-sound}
+use Rattle.step.specs.Parts.{steppedOf}
 use Rattle.model.specs.declared.PrefetchBuffer.{PrefetchBuffer}
 use Rattle.model.specs.declared.Clock.{Clock}
 use Rattle.model.specs.declared.Answer.{Answer}
 use Rattle.model.specs.declared.Step.{Step}
-use Rattle.bts.specs.declared.step.Stepped.{Stepped}
+use Rattle.step.specs.declared.Stepped.{Stepped}
 use Rattle.bts.specs.declared.run.Turned.{Turned}
+
+-- what a step leaves, and its answer's bytes
+pub record Turns (m : Media) (s : State) (x : Step) (r : Turned) (h t o : List ℕ) : Type 0 where
+  pub clock : r .clock ≡ clockAfter (s .board .clock) x
+  pub contents : r .contents ≡ contentsAfter m s x
+  pub price : r .cycles ≡ cycles (s .board .clock) x
+  pub halves : h ≡ halvesAfter m s x
+  pub store : t ≡ storeAfter m s x
+  pub out : o ≡ answerBytes (answer m s x)
 
 module _ (m : Media) (s : State) (x : Step) (t : Waits) (k : SoundClock (s .board .clock)) (w : t ≡ romWaits (s .board .clock .waitcnt))
     (st : Stepped) (e : st ≡ steppedOf m s x) where

@@ -1,7 +1,6 @@
 // The run of a sheet over a lent board and lent memories, exported to C as `bts_run`. include/bts.h documents it for C.
 mod check;
 mod run;
-mod step;
 
 use model::Lengths;
 use model::Verdict;

@@ -1,7 +1,5 @@
 // The run over the records of an accepted sheet: each step gets the board and the store that the step before left, and its
 // answer is written where it belongs.
-use crate::step::step;
-use crate::step::with_prefetch;
 use model::Answer;
 use model::Clock;
 use model::Contents;
@@ -10,13 +8,16 @@ use model::Step;
 use records::answer::put_answer;
 use records::sheet::record_at;
 use records::sheet::step_of;
+use step::step;
+use step::with_prefetch;
 use waits::waitcnt::WaitCnt;
 ghost use mathlib.Core.Path.{_≡_};
 ghost use Prim.Native.Nat.{_+_, _*_, _≤_};
 ghost use lib.ListN.{length};
 ghost use Rattle.model.specs.Waitcnt.{romWaits};
 ghost use Rattle.model.specs.Load.{lengthsSum};
-ghost use Rattle.bts.specs.Parts.{mediaFrom, stateFrom, Turns};
+ghost use Rattle.step.specs.Parts.{mediaFrom, stateFrom};
+ghost use Rattle.bts.specs.Whole.{Turns};
 ghost use Rattle.bts.specs.Progress.{Ended};
 ghost use Rattle.model.specs.Laws.Sound.{SoundClock};
 

@@ -3,7 +3,7 @@ use mathlib.Core.Path.{refl, sym, ap, _∙_}
 use Prim.Native.Nat.{_+_, _-_, _*_}
 use borrow.Rule.Slice.PartMut.{mid-len}
 use Rattle.model.specs.Sheet.{stepOf}
-use Rattle.bts.specs.Parts.{mediaFrom, stateFrom}
+use Rattle.step.specs.Parts.{mediaFrom, stateFrom}
 use Rattle.bts.specs.Progress.{begin, finish}
 use Rattle.bts.specs.Turning.{Going, same-room, went, same-size}
 use native.Mathlib.Omega.{arith}

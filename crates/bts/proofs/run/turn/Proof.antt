@@ -1,6 +1,6 @@
 -- `turn` meets its contract: the parts of the step make it whole. Assumes nothing.
 use mathlib.Core.Path.{refl}
-use Rattle.bts.specs.Parts.{mediaFrom, stateFrom}
+use Rattle.step.specs.Parts.{mediaFrom, stateFrom}
 use Rattle.bts.specs.Whole.{tick-sound, tick-small, whole}
 use borrow.Author.Needs.{needs}
 use Rattle.bts.proofs.run.turn.Statement.{statement}

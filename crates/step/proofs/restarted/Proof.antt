@@ -1,0 +1,22 @@
+-- `restarted` meets its contract: the waits are those of the register. Assumes nothing.
+use mathlib.Core.Path.{ap, _∙_}
+use Rattle.model.specs.Waitcnt.{Waits}
+use Rattle.model.specs.Prefetch.{restart}
+use Rattle.model.specs.Step.{withPrefetch}
+use borrow.Author.Needs.{needs}
+use Rattle.step.proofs.restarted.Statement.{statement}
+use Rattle.step.proofs.restarted.Tie as tie
+
+restart-requires : tie.Need-restart-requires
+restart-requires c κs = search needs
+
+with-prefetch-requires : tie.Need-with-prefetch-requires
+with-prefetch-requires c κs = search needs
+
+returns : tie.Need-returns
+returns c =
+    let a = c .before .before .before .args in
+    c .with-prefetch .ensures ∙ ap (withPrefetch (a .clock)) (c .before .restart .ensures ∙ ap (λ (t : Waits). restart t (a .clock .prefetch) (a .addr)) (c .before .before .before .pre))
+
+pub restarted-spec : {M : Type 1} → statement M
+restarted-spec = tie.close (tie.spec restart-requires with-prefetch-requires returns)
