@@ -1,18 +1,23 @@
-/* The Game Boy Advance bus-and-timing model: the run of a sheet, from libbts.a (make it with `rt staticlib bts`).
+/* The Game Boy Advance bus-and-timing model for C: the run of a sheet, from libbts.a (make it with `rt staticlib bts`).
  *
- * The caller sees to it that, for the time of the call:
- *   - every pointer is valid and not null, even where its length is 0;
- *   - no two buffers overlap, and nobody else writes any of them;
- *   - `store` is EWRAM, IWRAM, I/O, palette, VRAM, OAM and SRAM behind one another, in this order, with the seven lengths at the end.
+ * A sheet is a list of steps as bytes. bts_run examines it, does its steps in order on a board (the machine's state outside its
+ * memories) and over memories that the caller lends, and writes an answer for each step. host/ is a program over it.
  *
- * A refusal (number 1 to 7) has total 0 and leaves every byte of board, store and answers as it was:
- *   1 the sheet is under 8 bytes or has a wrong mark      5 the board is not 72 bytes or not sound
- *   2 its version is not 1                                6 the answers are shorter than 12 bytes a record
- *   3 its shape or length is wrong                        7 record `index` is faulty
- *   4 a memory is longer than its physical size, or the seven lengths do not add up to store_len
- * Number 0 is an accepted run: `index` is the number of records, `total` the sum of their cycles; the board and the store are as
- * the last record left them, and answers has 12 bytes a record: 0-3 value, 4-7 cycles, 8 hits, 9 prefetch count, 10 force flag,
- * 11 zero. The bytes behind them are untouched. All numbers are little endian. A fresh board is 72 zero bytes. */
+ * All numbers are little endian. "ROM window" is an address from 0x08000000 to 0x0DFFFFFF.
+ *
+ * What the caller sees to, for the time of the call:
+ *   - every pointer is valid and not null, even where its length is 0 (bts_bytes and bts_room below take NULL for "no memory");
+ *   - each length is the number of bytes at its pointer; no alignment is asked for;
+ *   - no two of the six buffers overlap (one of length 0 overlaps nothing);
+ *   - nobody else writes any of the six, and nobody else reads board, store and answers;
+ *   - `store` is EWRAM, IWRAM, I/O, palette, VRAM, OAM and SRAM behind one another, in this order and with nothing between them;
+ *     the seven lengths at the end are theirs. A length may be 0, odd, or short of the physical size.
+ * These are the only rules: with them kept, a call ends and is safe whatever the buffers and the seven lengths hold, and what is
+ * wrong with them is refused.
+ *
+ * Who owns what: the caller, everything. The library allocates nothing, keeps no pointer and no state from call to call, reads
+ * and writes no file, and never writes sheet, BIOS or ROM. Threads may call it at once on different boards, stores and answers;
+ * they may share a sheet, a BIOS and a ROM. */
 #ifndef BTS_H
 #define BTS_H
 
@@ -23,11 +28,124 @@
 extern "C" {
 #endif
 
+/* ---- what the run gives back */
+
+/* number is BTS_OK or a refusal.
+ *
+ * BTS_OK: index is the number of records, total the sum of their cycles. Board and store are as the last record left them, and
+ * answers has an answer for each record; its bytes behind them are untouched. The board is sound, so it can be lent again.
+ *
+ * A refusal: total is 0, index is the faulty record (from 0) for BTS_FAULTY_RECORD and else 0, and every byte of board, store
+ * and answers is as it was. Where several conditions are met, the lowest number is given; every record is examined before the
+ * first is done. */
 typedef struct {
     uint32_t number;
     uint32_t index;
     uint64_t total;
 } bts_report;
+
+enum {
+    BTS_OK = 0,
+    BTS_BAD_MARK = 1,      /* the sheet is under 8 bytes or doesn't begin with "BTS" */
+    BTS_BAD_VERSION = 2,   /* its version is not 1 */
+    BTS_BAD_SHAPE = 3,     /* its byte 5 is not 0, it has over 4,096 records, or its length is not 8 + 12 a record */
+    BTS_BAD_LENGTHS = 4,   /* a memory is longer than its physical size, or the seven lengths don't add up to store_len */
+    BTS_UNSOUND_BOARD = 5, /* the board is not 72 bytes or not sound */
+    BTS_SHORT_ANSWERS = 6, /* the answers are shorter than 12 bytes a record */
+    BTS_FAULTY_RECORD = 7  /* record `index` breaks the layout of a record or the table of kinds */
+};
+
+/* ---- lengths, in bytes */
+
+enum {
+    BTS_HEADER_SIZE = 8,
+    BTS_RECORD_SIZE = 12,
+    BTS_MOST_RECORDS = 4096,
+    BTS_MOST_SHEET = BTS_HEADER_SIZE + BTS_RECORD_SIZE * BTS_MOST_RECORDS, /* the longest sheet */
+    BTS_BOARD_SIZE = 72,
+    BTS_ANSWER_SIZE = 12
+};
+
+/* The physical sizes: a memory may be shorter, not longer. */
+enum {
+    BTS_BIOS_SIZE = 16384,
+    BTS_ROM_SIZE = 33554432,
+    BTS_EWRAM_SIZE = 262144,
+    BTS_IWRAM_SIZE = 32768,
+    BTS_IO_SIZE = 2052,
+    BTS_PALETTE_SIZE = 1024,
+    BTS_VRAM_SIZE = 98304,
+    BTS_OAM_SIZE = 1024,
+    BTS_SRAM_SIZE = 65536
+};
+
+/* ---- the sheet
+ *
+ * Header: bytes 0-2 "BTS", 3-4 version, 5 zero, 6-7 number of records; the records stand behind it.
+ * Record: byte 0 kind, 1 size, 2 flag, 3 zero, 4-7 address, 8-11 value. Any address is legal. A field that the kind doesn't use
+ * is 0. */
+
+enum { BTS_VERSION = 1 };
+
+enum {
+    BTS_READ = 1,        /* size 1, 2 or 4; address */
+    BTS_WRITE = 2,       /* size 1, 2 or 4; address; value, of which the low bits by size count and the rest are ignored */
+    BTS_WAITCNT = 3,     /* value up to 65,535: written to WAITCNT and applied */
+    BTS_IDLE = 4,        /* value: so many cycles in which the cartridge bus is free */
+    BTS_FETCH = 5,       /* address: a halfword asked of the prefetch */
+    BTS_RESTART = 6,     /* address: the prefetch starts anew there */
+    BTS_INSTRUCTION = 7, /* size 2 Thumb, 4 ARM; address; value = opcode (Thumb: low 16 bits, the rest ignored); flag 1 = pc changed */
+    BTS_PC = 8,          /* address: the pc, which opens the BIOS to loads below 0x4000 */
+    BTS_LATCH = 9        /* value: what BIOS loads give while it is closed */
+};
+
+/* ---- the board
+ *
+ * A fresh board is BTS_BOARD_SIZE zero bytes. The places of its fields: */
+
+enum {
+    BTS_BOARD_WAITCNT = 0,       /* 2 bytes */
+    BTS_BOARD_FORCE = 2,         /* 1: the next opcode fetch is nonsequential */
+    BTS_BOARD_HEAD = 3,          /* the prefetch: place of its first halfword among the eight */
+    BTS_BOARD_COUNT = 4,         /* how many stand */
+    BTS_BOARD_FILLING = 5,       /* 1: another is on its way */
+    BTS_BOARD_FIRST_BEAT = 6,    /* 1: the next to be started is priced as the first since a restart */
+    /* 7 is zero */
+    BTS_BOARD_WAIT_LEFT = 8,     /* 4 bytes: idle cycles until the one on its way is there, else 0 */
+    BTS_BOARD_NEXT_ADDRESS = 12, /* 4 bytes: of the one on its way, or the next to be started */
+    BTS_BOARD_HEAD_ADDRESS = 16, /* 4 bytes: of the first that stands */
+    BTS_BOARD_HALFWORDS = 20,    /* 8 times 2 bytes */
+    BTS_BOARD_PC = 36,           /* 4 bytes */
+    BTS_BOARD_LATCH = 40,        /* 4 bytes */
+    BTS_BOARD_VRAM_STORES = 44,  /* 8 bytes each: the store counters, which stop at 2^64 - 1 */
+    BTS_BOARD_OAM_STORES = 52,
+    BTS_BOARD_PALETTE_STORES = 60
+    /* 68-71 are zero */
+};
+
+/* A board is sound when all of these hold:
+ *   - bytes 7 and 68-71 are 0; force, filling and first beat are 0 or 1; WAITCNT bit 13 is clear;
+ *   - head is at most 7, count at most 8, wait left at most 9, and next address is even;
+ *   - filling is 1 exactly when wait left is at least 1, and then count is at most 7 and next address lies in a ROM window;
+ *   - with count 0, head address is 0; else head address and next address - 2 lie in ROM windows, and
+ *     head address + 2 * count = next address;
+ *   - with prefetch off (WAITCNT bit 14 clear), bytes 3-6 and 8-19 are 0.
+ * Halfwords, pc, latch and counters may hold anything. A board that an accepted run left is sound. */
+
+/* ---- the answers
+ *
+ * Answer: bytes 0-3 value, 4-7 cycles, 8 hits, 9 prefetch count, 10 force flag, 11 zero; the count and the flag are those after
+ * the step. */
+
+typedef struct {
+    uint32_t value;  /* READ: the data; FETCH: the halfword, 0 on a miss; INSTRUCTION: its cycles with the cartridge bus free; else 0 */
+    uint32_t cycles;
+    uint8_t hits;    /* halfwords that FETCH or INSTRUCTION took from the prefetch; else 0 */
+    uint8_t count;   /* halfwords that stand in the prefetch */
+    uint8_t force;   /* 1: the next opcode fetch is nonsequential */
+} bts_answer;
+
+/* ---- the run */
 
 bts_report bts_run(const uint8_t *sheet, size_t sheet_len,
                    uint8_t *board, size_t board_len,
@@ -36,6 +154,63 @@ bts_report bts_run(const uint8_t *sheet, size_t sheet_len,
                    const uint8_t *rom, size_t rom_len,
                    uint8_t *answers, size_t answers_len,
                    size_t ewram, size_t iwram, size_t io, size_t palette, size_t vram, size_t oam, size_t sram);
+
+/* ---- helpers, which need no library */
+
+/* A pointer that bts_run may be given: NULL, which stands for "no memory" and goes with length 0, becomes a valid address. */
+static inline const uint8_t *bts_bytes(const uint8_t *bytes) {
+    static const uint8_t none[1] = {0};
+    return bytes != NULL ? bytes : none;
+}
+
+/* The same for a buffer that is written. With length 0 nothing is written, so all callers may share the one byte. */
+static inline uint8_t *bts_room(uint8_t *bytes) {
+    static uint8_t none[1] = {0};
+    return bytes != NULL ? bytes : none;
+}
+
+/* A number's 4 bytes, written. */
+static inline void bts_put32(uint8_t *at, uint32_t number) {
+    at[0] = (uint8_t)(number & 0xFF);
+    at[1] = (uint8_t)(number >> 8 & 0xFF);
+    at[2] = (uint8_t)(number >> 16 & 0xFF);
+    at[3] = (uint8_t)(number >> 24);
+}
+
+/* A number's 4 bytes, read. */
+static inline uint32_t bts_get32(const uint8_t *at) {
+    return (uint32_t)at[0] | (uint32_t)at[1] << 8 | (uint32_t)at[2] << 16 | (uint32_t)at[3] << 24;
+}
+
+/* The BTS_HEADER_SIZE bytes in front of `records` records, at most BTS_MOST_RECORDS. */
+static inline void bts_put_header(uint8_t *sheet, uint32_t records) {
+    bts_put32(sheet, 0x00535442 | (uint32_t)BTS_VERSION << 24);
+    bts_put32(sheet + 4, records << 16);
+}
+
+/* Record k, from 0, of a sheet that has room for it. What is no legal record is written all the same, and refused by the run. */
+static inline void bts_put_record(uint8_t *sheet, size_t k, uint8_t kind, uint8_t size, uint8_t flag, uint32_t address,
+                                  uint32_t value) {
+    uint8_t *record = sheet + BTS_HEADER_SIZE + BTS_RECORD_SIZE * k;
+    record[0] = kind;
+    record[1] = size;
+    record[2] = flag;
+    record[3] = 0;
+    bts_put32(record + 4, address);
+    bts_put32(record + 8, value);
+}
+
+/* Answer k, from 0, of an accepted run. */
+static inline bts_answer bts_answer_at(const uint8_t *answers, size_t k) {
+    const uint8_t *at = answers + BTS_ANSWER_SIZE * k;
+    bts_answer answer;
+    answer.value = bts_get32(at);
+    answer.cycles = bts_get32(at + 4);
+    answer.hits = at[8];
+    answer.count = at[9];
+    answer.force = at[10];
+    return answer;
+}
 
 #ifdef __cplusplus
 }

@@ -129,11 +129,13 @@ index-small i r =
     λ e₄. choose P (not (sound (i .board))) (λ e. zero-index UnsoundBoard refl)
     λ e₅. choose P (ltb (length (i .answers)) (12 * recordCount (i .sheet))) (λ e. zero-index ShortAnswers refl)
     λ e₆. choose P (ltb (faultIndex i) (recordCount (i .sheet)))
-    (λ e h.
+    (λ e.
     let s : Shaped (i .sheet) = shaped (i .sheet) (not-false (isShaped (i .sheet)) e₃) in
     let k : faultIndex i < recordCount (i .sheet) = ltb-true (faultIndex i) (recordCount (i .sheet)) e in
+    let few : faultIndex i ≤ 4096 = omega (arith, s .few) in
+    λ h.
     let same : FaultyRecord (faultIndex i) ≡ r = cc in
-    rw (← same) (omega (arith, s .few)))
+    rw (← same) few)
     (λ e h. let z : _≡_ {A = ℕ} 0 1 = cc in absurd (omega arith))
   where
     P : Verdict → Type 0
