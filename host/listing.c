@@ -1,0 +1,259 @@
+/* Listings: from lines to records. What is refused here is what the run would refuse as a faulty record, and what no record
+ * could hold; and values with bits that the run would ignore, since whoever wrote them meant something else. */
+#include "listing.h"
+
+#include <stdarg.h>
+#include <stdio.h>
+#include <string.h>
+
+#include "kinds.h"
+#include "say.h"
+
+/* A mnemonic, three operands and `pc` are five; a sixth word is kept to be told as too much. */
+enum { WORDS_MOST = 6 };
+
+struct word {
+    const char *at;
+    size_t len;
+};
+
+/* The line that is being read. */
+struct reader {
+    const char *file;
+    unsigned long line;
+    unsigned faults;
+    bool full; /* a step was met for which the sheet has no room */
+    const struct form *form;
+    struct word words[WORDS_MOST];
+    size_t count; /* words of the line */
+    size_t next;  /* the next word that has not been taken */
+};
+
+/* The fields of the record that a line stands for. */
+struct step {
+    uint8_t size;
+    uint8_t flag;
+    uint32_t address;
+    uint32_t value;
+};
+
+/* Always false, so that a test can end in `return fault(..)`. */
+HOST_FORMAT(2, 3)
+static bool fault(struct reader *reader, const char *format, ...) {
+    va_list arguments;
+    va_start(arguments, format);
+    fprintf(stderr, "%s:%lu: ", reader->file, reader->line);
+    vfprintf(stderr, format, arguments);
+    fputc('\n', stderr);
+    va_end(arguments);
+    reader->faults++;
+    return false;
+}
+
+enum { SHOWN_MOST = 24, SHOWN_ROOM = 4 * SHOWN_MOST + 3 };
+
+/* A word as it may be printed: a terminal gets no control character from a listing, and no endless line. */
+static const char *shown(struct word word, char text[SHOWN_ROOM]) {
+    size_t len = 0;
+    for (size_t i = 0; i < word.len && i < SHOWN_MOST; i++) {
+        unsigned char c = (unsigned char)word.at[i];
+        bool plain = c > ' ' && c < 0x7F;
+        len += (size_t)snprintf(text + len, SHOWN_ROOM - len, plain ? "%c" : "\\x%02X", c);
+    }
+    snprintf(text + len, SHOWN_ROOM - len, "%s", word.len > SHOWN_MOST ? ".." : "");
+    return text;
+}
+
+/* ---- numbers */
+
+/* A digit's value, or -1. */
+static int digit(char c, int base) {
+    static const char digits[] = "0123456789abcdef0123456789ABCDEF";
+    const char *found = c != '\0' ? strchr(digits, c) : NULL;
+    int value = found != NULL ? (int)((found - digits) % 16) : base;
+    return value < base ? value : -1;
+}
+
+/* Decimal, or hexadecimal behind 0x; a leading 0 changes nothing. What is over 32 bits comes out as 2^32, however long it is. */
+static bool number(struct word word, uint64_t *value) {
+    const uint64_t over = (uint64_t)1 << 32;
+    bool hex = word.len > 2 && word.at[0] == '0' && (word.at[1] == 'x' || word.at[1] == 'X');
+    int base = hex ? 16 : 10;
+    *value = 0;
+    for (size_t i = hex ? 2 : 0; i < word.len; i++) {
+        int d = digit(word.at[i], base);
+        if (d < 0) {
+            return false;
+        }
+        *value = *value * (uint64_t)base + (uint64_t)d;
+        *value = *value < over ? *value : over;
+    }
+    return word.len > 0;
+}
+
+/* ---- operands */
+
+/* The next word as a number up to `most`; `name` is what it is called, and `of` the step. */
+static bool take_number(struct reader *reader, const char *name, const char *of, uint32_t most, uint32_t *out) {
+    char text[SHOWN_ROOM];
+    uint64_t value;
+    if (reader->next == reader->count) {
+        return fault(reader, "%s has no %s: write %s %s", of, name, reader->form->name, reader->form->operands);
+    }
+    struct word word = reader->words[reader->next++];
+    if (number(word, &value)) {
+        *out = (uint32_t)(value & 0xFFFFFFFF);
+        return value <= most || fault(reader, "%s %s of %s is over %lu%s", name, shown(word, text), of, (unsigned long)most,
+                                      most == 0xFFFFFFFF ? " (0xFFFFFFFF)" : "");
+    }
+    if (word.len > 1 && word.at[0] == '-' && number((struct word){word.at + 1, word.len - 1}, &value)) {
+        return fault(reader, "%s %s of %s is negative", name, shown(word, text), of);
+    }
+    return fault(reader, "%s %s of %s is no number (decimal, or hexadecimal behind 0x)", name, shown(word, text), of);
+}
+
+static bool take_size(struct reader *reader, uint8_t *size) {
+    char text[SHOWN_ROOM];
+    uint32_t value;
+    size_t at = reader->next;
+    if (!take_number(reader, "size", reader->form->name, 0xFFFFFFFF, &value)) {
+        return false;
+    }
+    *size = (uint8_t)(value & 7);
+    return value == 1 || value == 2 || value == 4 ||
+           fault(reader, "size %s of %s is not 1, 2 or 4", shown(reader->words[at], text), reader->form->name);
+}
+
+static bool take_value(struct reader *reader, struct step *step) {
+    const struct form *form = reader->form;
+    uint32_t most = form_value_most(form, step->size);
+    char of[32];
+    if (!form->has_size) {
+        return take_number(reader, form->value_name, form->name, most, &step->value);
+    }
+    snprintf(of, sizeof of, "%s %u", form->name, (unsigned)step->size);
+    return take_number(reader, form->value_name, of, most, &step->value);
+}
+
+/* `pc`, if it stands there, in capitals or not. */
+static uint8_t take_pc(struct reader *reader) {
+    if (!reader->form->has_pc || reader->next == reader->count) {
+        return 0;
+    }
+    struct word word = reader->words[reader->next];
+    bool pc = word.len == 2 && (word.at[0] | 0x20) == 'p' && (word.at[1] | 0x20) == 'c';
+    reader->next += pc;
+    return pc;
+}
+
+static bool take_operands(struct reader *reader, struct step *step) {
+    const struct form *form = reader->form;
+    char text[SHOWN_ROOM];
+    step->size = form->size;
+    if (form->has_size && !take_size(reader, &step->size)) {
+        return false;
+    }
+    if (form->has_address && !take_number(reader, "address", form->name, 0xFFFFFFFF, &step->address)) {
+        return false;
+    }
+    if (form->value_name != NULL && !take_value(reader, step)) {
+        return false;
+    }
+    step->flag = take_pc(reader);
+    return reader->next == reader->count || fault(reader, "%s is too much: write %s %s",
+                                                  shown(reader->words[reader->next], text), form->name, form->operands);
+}
+
+/* ---- lines */
+
+/* Up to the sixth word; a comment ends the line. */
+static void split(struct reader *reader, const char *line, size_t len) {
+    size_t i = 0;
+    reader->count = 0;
+    while (i < len && line[i] != '#' && line[i] != ';' && reader->count < WORDS_MOST) {
+        size_t start = i;
+        while (i < len && strchr(" \t#;", line[i]) == NULL) {
+            i++;
+        }
+        if (i > start) {
+            reader->words[reader->count++] = (struct word){line + start, i - start};
+        } else {
+            i++;
+        }
+    }
+}
+
+static bool fault_unknown(struct reader *reader, struct word word) {
+    char text[SHOWN_ROOM];
+    char names[200] = "";
+    for (size_t i = 0; form_at(i) != NULL; i++) {
+        size_t len = strlen(names);
+        snprintf(names + len, sizeof names - len, "%s%s", i > 0 ? ", " : "", form_at(i)->name);
+    }
+    return fault(reader, "%s is no step; the steps are %s", shown(word, text), names);
+}
+
+/* What no line may be, whatever stands in it. A carriage return within a line would hide the steps behind it in a comment. */
+static bool is_text(struct reader *reader, const char *line, size_t len) {
+    if (len > LINE_MOST) {
+        return fault(reader, "the line is longer than %d bytes", LINE_MOST);
+    }
+    if (memchr(line, '\0', len) != NULL) {
+        return fault(reader, "the line has a NUL byte");
+    }
+    return memchr(line, '\r', len) == NULL || fault(reader, "the line has a carriage return that doesn't end it");
+}
+
+/* Whether the line has a step, which is then record k of the sheet. A bad line has none and is told. */
+static bool read_line(struct reader *reader, const char *line, size_t len, struct sheet *sheet, size_t k) {
+    struct step step = {0};
+    reader->line++;
+    if (len > 0 && line[len - 1] == '\r') {
+        len--;
+    }
+    if (!is_text(reader, line, len)) {
+        return false;
+    }
+    split(reader, line, len);
+    if (reader->count == 0) {
+        return false;
+    }
+    reader->form = form_by_name(reader->words[0].at, reader->words[0].len);
+    if (reader->form == NULL) {
+        return fault_unknown(reader, reader->words[0]);
+    }
+    reader->next = 1;
+    if (!take_operands(reader, &step)) {
+        return false;
+    }
+    reader->full = k == BTS_MOST_RECORDS;
+    if (reader->full) {
+        return fault(reader, "step %d: a sheet has at most %d", BTS_MOST_RECORDS + 1, BTS_MOST_RECORDS);
+    }
+    bts_put_record(sheet->bytes, k, reader->form->kind, step.size, step.flag, step.address, step.value);
+    return true;
+}
+
+bool assemble(const char *file, const uint8_t *text, size_t len, struct sheet *sheet) {
+    struct reader reader = {.file = file};
+    const char *at = (const char *)text;
+    uint32_t records = 0;
+    if (len > LISTING_MOST) {
+        complain("%s is longer than %d bytes, which no listing is", file, LISTING_MOST);
+        return false;
+    }
+    while (len > 0 && reader.faults < FAULTS_MOST && !reader.full) {
+        const char *end = memchr(at, '\n', len);
+        size_t line = end != NULL ? (size_t)(end - at) : len;
+        size_t past = end != NULL ? line + 1 : line;
+        records += read_line(&reader, at, line, sheet, records);
+        at += past;
+        len -= past;
+    }
+    if (len > 0 && reader.faults == FAULTS_MOST) {
+        complain("%s: %d bad lines; the rest is left unread", file, FAULTS_MOST);
+    }
+    bts_put_header(sheet->bytes, records);
+    sheet->len = BTS_HEADER_SIZE + BTS_RECORD_SIZE * (size_t)records;
+    return reader.faults == 0;
+}

@@ -1,0 +1,29 @@
+/* The command line. */
+#ifndef HOST_OPTIONS_H
+#define HOST_OPTIONS_H
+
+#include <stdbool.h>
+
+/* A file that was not named is NULL. */
+struct options {
+    const char *listing; /* NULL: standard input */
+    const char *sheet;   /* a sheet in bytes, instead of a listing */
+    const char *rom;
+    const char *bios;
+    const char *sram;
+    const char *board;
+    const char *sheet_out;
+    const char *board_out;
+    const char *sram_out;
+    bool full;  /* every memory at its physical size */
+    bool table; /* the table for a person, instead of bench's lines */
+    bool help;
+};
+
+/* What is wrong is told on standard error. */
+bool read_options(int argc, char **argv, struct options *options);
+
+/* The help text, on standard output. */
+void print_help(void);
+
+#endif
