@@ -99,12 +99,15 @@ fn compare_report(case: u32, got: Report) -> Found {
     }
 }
 
-// Reads into `space` what `got` should be.
-fn compare_bytes(case: u32, what: &[u8], got: &[u8], space: &mut [u8]) -> Found {
+// No board and no answers of the sample are longer than this.
+const MOST_COMPARED: usize = 49164;
+
+fn compare_bytes(case: u32, what: &[u8], got: &[u8]) -> Found {
     let n = got.len();
-    if n > space.len() {
+    if n > MOST_COMPARED {
         return bad_sample();
     }
+    let mut space = [0u8; 49164];
     let want = &mut space[0..n];
     if !sample::read_bytes(want) {
         return bad_sample();
@@ -221,12 +224,11 @@ fn compare(
     board: &[u8],
     store: &mut [u8],
     answers: &[u8],
-    space: &mut [u8],
     seed: u32,
 ) -> Found {
     let first = compare_report(case, report);
-    let second = compare_bytes(case, b"board", board, space);
-    let third = compare_bytes(case, b"answers", answers, space);
+    let second = compare_bytes(case, b"board", board);
+    let third = compare_bytes(case, b"answers", answers);
     let fourth = compare_store(case, store, seed);
     both(both(first, second), both(third, fourth))
 }
@@ -240,7 +242,6 @@ fn replay_lent(
     bios: &mut [u8],
     rom: &mut [u8],
     answers: &mut [u8],
-    space: &mut [u8],
     lengths: Lengths,
     seed: u32,
 ) -> Found {
@@ -248,103 +249,72 @@ fn replay_lent(
         return bad_sample();
     }
     let report = run(sheet, board, store, bios, rom, answers, lengths);
-    compare(case, report, board, store, answers, space, seed)
+    compare(case, report, board, store, answers, seed)
 }
 
-// Lends as much of the store, the BIOS and the ROM as the case's head says.
-fn lend_memories(
-    case: u32,
-    head: &[u32; 14],
-    sheet: &mut [u8],
-    board: &mut [u8],
-    store: &mut [u8],
-    bios: &mut [u8],
-    rom: &mut [u8],
-    answers: &mut [u8],
-    space: &mut [u8],
-) -> Found {
-    let a = wide(head[2]);
-    let b = wide(head[3]);
-    let c = wide(head[4]);
-    if a > store.len() {
+// Whether a case lends no more than the buffers below have.
+fn fits(head: &[u32; 14]) -> bool {
+    (head[0] <= 49172)
+        & (head[1] <= 144)
+        & (head[2] <= 462853)
+        & (head[3] <= 16385)
+        & (head[4] <= 131136)
+        & (head[5] <= 49164)
+}
+
+fn at_most(n: u32, most: usize) -> usize
+    ensures { λ r. ⌜ r ≤ most ⌝ }
+{
+    let m = n as usize;
+    if m <= most { m } else { most }
+}
+
+// A case with its head read. Each buffer is as long as the most that a case of the sample lends, and as much of it is lent as the
+// head says.
+fn replay_headed(case: u32, head: &[u32; 14]) -> Found {
+    if !fits(head) {
         return bad_sample();
     }
-    if b > bios.len() {
-        return bad_sample();
-    }
-    if c > rom.len() {
-        return bad_sample();
-    }
+    let mut sheet = [0u8; 49172];
+    let mut board = [0u8; 144];
+    let mut store = [0u8; 462853];
+    let mut bios = [0u8; 16385];
+    let mut rom = [0u8; 131136];
+    let mut answers = [0u8; 49164];
+    let a = at_most(head[0], 49172);
+    let b = at_most(head[1], 144);
+    let c = at_most(head[2], 462853);
+    let d = at_most(head[3], 16385);
+    let e = at_most(head[4], 131136);
+    let f = at_most(head[5], 49164);
     let memories = lengths_of(head);
     replay_lent(
         case,
-        sheet,
-        board,
-        &mut store[0..a],
-        &mut bios[0..b],
-        &mut rom[0..c],
-        answers,
-        space,
+        &mut sheet[0..a],
+        &mut board[0..b],
+        &mut store[0..c],
+        &mut bios[0..d],
+        &mut rom[0..e],
+        &mut answers[0..f],
         memories,
         head[13],
     )
 }
 
-// Reads a case's head, and lends as much of the sheet, the board and the answers as it says.
-fn replay_case(
-    case: u32,
-    sheet: &mut [u8],
-    board: &mut [u8],
-    store: &mut [u8],
-    bios: &mut [u8],
-    rom: &mut [u8],
-    answers: &mut [u8],
-    space: &mut [u8],
-) -> Found {
+fn replay_case(case: u32) -> Found {
     let mut head = [0u32; 14];
     if !sample::read_words(&mut head) {
         return bad_sample();
     }
-    let a = wide(head[0]);
-    let b = wide(head[1]);
-    let c = wide(head[5]);
-    if a > sheet.len() {
-        return bad_sample();
-    }
-    if b > board.len() {
-        return bad_sample();
-    }
-    if c > answers.len() {
-        return bad_sample();
-    }
-    lend_memories(
-        case,
-        &head,
-        &mut sheet[0..a],
-        &mut board[0..b],
-        store,
-        bios,
-        rom,
-        &mut answers[0..c],
-        space,
-    )
+    replay_headed(case, &head)
 }
 
 // Replays cases until all are done or one is cut off or too long, and answers how many agree.
-fn replay_all(
-    count: u32,
-    sheet: &mut [u8],
-    board: &mut [u8],
-    store: &mut [u8],
-    bios: &mut [u8],
-    rom: &mut [u8],
-    answers: &mut [u8],
-    space: &mut [u8],
-) -> u32 {
+fn replay_all(count: u32) -> u32 {
     let mut agree: u32 = 0;
     let mut case: u32 = 0;
     while case < count {
-        let found = replay_case(case, sheet, board, store, bios, rom, answers, space);
+        let found = replay_case(case);
         if !found.whole {
             tell(case, b"bad sample");
             return agree;
@@ -355,25 +325,8 @@ fn replay_all(
     agree
 }
 
-// Each buffer is as long as the most that a case of the sample lends.
 fn replay(count: u32) {
-    let mut sheet = [0u8; 49172];
-    let mut board = [0u8; 144];
-    let mut store = [0u8; 462853];
-    let mut bios = [0u8; 16385];
-    let mut rom = [0u8; 131136];
-    let mut answers = [0u8; 49164];
-    let mut space = [0u8; 49164];
-    let agree = replay_all(
-        count,
-        &mut sheet,
-        &mut board,
-        &mut store,
-        &mut bios,
-        &mut rom,
-        &mut answers,
-        &mut space,
-    );
+    let agree = replay_all(count);
     io::print_decimal(STDOUT_FILENO, agree as u64);
     io::write_all(STDOUT_FILENO, b" of ");
     io::print_decimal(STDOUT_FILENO, count as u64);
