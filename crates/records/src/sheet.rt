@@ -8,8 +8,10 @@ use model::IsaState;
 use model::SheetRecord;
 use model::Step;
 ghost use mathlib.Core.Path.{_≡_};
-ghost use Prim.Native.Nat.{_+_, _*_, _≤_};
+ghost use Prim.Native.Nat.{_+_, _*_, _/_, _%_, _^_, _≤_};
 ghost use lib.ListN.{length};
+ghost use lib.Dec.{leb};
+ghost use Rattle.model.specs.Base.{if_then_else_};
 ghost use Rattle.model.specs.Sheet as def;
 
 pub const MAX_RECORDS: usize = 4096;
@@ -99,38 +101,47 @@ pub fn step_of(r: SheetRecord) -> Step
     }
 }
 
-fn size_fits(kind: u8, size: u8) -> bool
-    ensures { λ r. ⌜ r ≡ def.sizeFits kind size ⌝ }
-{
-    if (kind == 1) | (kind == 2) {
-        return (size == 1) | (size == 2) | (size == 4);
-    }
-    if kind == 7 {
-        return (size == 2) | (size == 4);
-    }
-    size == 0
-}
+// The sizes of the kinds: bit 5 * kind + size, so five bits a kind, kind 0 (none) in the lowest.
+const SIZES: u64 = 0b00001_00001_10100_00001_00001_00001_00001_10110_10110_00000;
 
 // A fault that the first pass looks for: the kind, or its size.
 pub fn kind_fault(r: SheetRecord) -> bool
     ensures { λ x. ⌜ x ≡ def.kindFault r ⌝ }
 {
-    !((1 <= r.kind) & (r.kind <= 9) & size_fits(r.kind, r.size))
+    if (r.kind > 9) | (r.size > 4) {
+        return true;
+    }
+    (SIZES >> (5 * r.kind as u32 + r.size as u32)) % 2 == 0
 }
 
-// A fault that the second pass looks for: the other fields.
+// The kinds that use a field: bit k for kind k. The value of kind 3 has 16 bits, so that kind is a set of its own.
+const FLAG_KINDS: u32 = 0b00_1000_0000;
+
+const ADDRESS_KINDS: u32 = 0b01_1110_0110;
+
+const VALUE_KINDS: u32 = 0b10_1001_0100;
+
+const HALF_VALUE_KINDS: u32 = 0b00_0000_1000;
+
+// 1 if a kind is in a set of kinds, else 0. A number over 9 is taken for 0, which is in no set.
+fn uses(kinds: u32, kind: u8) -> u32
+    requires { ⌜ kinds % 2 ≡ 0 ⌝ }
+    ensures { λ r. ⌜ r ≡ (if leb kind 9 then kinds / 2 ^ kind % 2 else 0) ⌝ }
+    ensures { λ r. ⌜ r ≤ 1 ⌝ }
+{
+    let k = if kind <= 9 { kind as u32 } else { 0 };
+    (kinds >> k) % 2
+}
+
+// A fault that the second pass looks for: the other fields. Each is at most the greatest value that its kind allows, and the
+// flag and the zero byte are one number.
 pub fn field_fault(r: SheetRecord) -> bool
     ensures { λ x. ⌜ x ≡ def.fieldFault r ⌝ }
 {
-    let k = r.kind;
-    let uses_address = (k == 1) | (k == 2) | (k == 5) | (k == 6) | (k == 7) | (k == 8);
-    let uses_value = (k == 2) | (k == 3) | (k == 4) | (k == 7) | (k == 9);
-    !((r.zero_byte == 0)
-        & ((k == 7) | (r.flag == 0))
-        & (r.flag <= 1)
-        & (uses_address | (r.address == 0))
-        & (uses_value | (r.value == 0))
-        & (!(k == 3) | (r.value <= 0xFFFF)))
+    let flag = uses(FLAG_KINDS, r.kind);
+    let address = 0xFFFF_FFFF * uses(ADDRESS_KINDS, r.kind);
+    let value = 0xFFFF_FFFF * uses(VALUE_KINDS, r.kind) + 0xFFFF * uses(HALF_VALUE_KINDS, r.kind);
+    !((half(r.flag, r.zero_byte) as u32 <= flag) & (r.address <= address) & (r.value <= value))
 }
 
 // The first record of n with a fault of kind or size; n where there is none.
