@@ -101,10 +101,12 @@ pub fn step_of(r: SheetRecord) -> Step
     }
 }
 
-// The sizes of the kinds: bit 5 * kind + size, so five bits a kind, kind 0 (none) in the lowest.
+// The sizes of each kind: bit 5 * kind + size. Five bits a kind, from kind 9 down to 0, which is no kind: sizes 1, 2 and 4 for
+// kinds 1 and 2, sizes 2 and 4 for kind 7, size 0 for the others.
 const SIZES: u64 = 0b00001_00001_10100_00001_00001_00001_00001_10110_10110_00000;
 
-// A fault that the first pass looks for: the kind, or its size.
+// A fault that the first pass looks for: the kind, or its size. The kind is not branched on, here and in the second pass:
+// kinds follow each other in no order, so that a branch would often be guessed wrong.
 pub fn kind_fault(r: SheetRecord) -> bool
     ensures { λ x. ⌜ x ≡ def.kindFault r ⌝ }
 {
@@ -114,13 +116,16 @@ pub fn kind_fault(r: SheetRecord) -> bool
     (SIZES >> (5 * r.kind as u32 + r.size as u32)) % 2 == 0
 }
 
-// The kinds that use a field: bit k for kind k. The value of kind 3 has 16 bits, so that kind is a set of its own.
+// The kinds that use the flag, 7. Bit k for kind k, here and below.
 const FLAG_KINDS: u32 = 0b00_1000_0000;
 
+// The kinds that use the address: 1, 2, 5, 6, 7, 8.
 const ADDRESS_KINDS: u32 = 0b01_1110_0110;
 
-const VALUE_KINDS: u32 = 0b10_1001_0100;
+// The kinds whose value has 32 bits: 2, 4, 7, 9.
+const WORD_VALUE_KINDS: u32 = 0b10_1001_0100;
 
+// The kind whose value has 16 bits, 3.
 const HALF_VALUE_KINDS: u32 = 0b00_0000_1000;
 
 // 1 if a kind is in a set of kinds, else 0. A number over 9 is taken for 0, which is in no set.
@@ -133,14 +138,15 @@ fn uses(kinds: u32, kind: u8) -> u32
     (kinds >> k) % 2
 }
 
-// A fault that the second pass looks for: the other fields. Each is at most the greatest value that its kind allows, and the
-// flag and the zero byte are one number.
+// A fault that the second pass looks for: the other fields. Each is at most the greatest value that its kind allows; the flag
+// and the zero byte behind it are one number.
 pub fn field_fault(r: SheetRecord) -> bool
     ensures { λ x. ⌜ x ≡ def.fieldFault r ⌝ }
 {
     let flag = uses(FLAG_KINDS, r.kind);
     let address = 0xFFFF_FFFF * uses(ADDRESS_KINDS, r.kind);
-    let value = 0xFFFF_FFFF * uses(VALUE_KINDS, r.kind) + 0xFFFF * uses(HALF_VALUE_KINDS, r.kind);
+    let value = 0xFFFF_FFFF * uses(WORD_VALUE_KINDS, r.kind)
+        + 0xFFFF * uses(HALF_VALUE_KINDS, r.kind);
     !((half(r.flag, r.zero_byte) as u32 <= flag) & (r.address <= address) & (r.value <= value))
 }
 
