@@ -6,7 +6,7 @@ use Prim.Native.Nat.{ℕ, zero, suc, _+_, _*_, _/_, _%_, _^_, _≤_, _<_}
 use native.Mathlib.Nat.{add-zero}
 use native.Mathlib.Omega.{arith}
 use lib.Dec.{eqb, leb, ltb, leb·suc-zero, eqb·suc-zero}
-use borrow.Author.Tests.{eqb-true, ltb-true, ltb-false, leb-true, le-leb, lt-leb, eq-eqb, ne-eqb}
+use borrow.Author.Tests.{eqb-true, ltb-true, ltb-false, leb-true, le-leb, lt-leb, ne-eqb}
 use Rattle.model.specs.Base.{if_then_else_, bit}
 use Rattle.model.specs.Sheet.{sizeFits, kindFault, usesFlag, usesAddress, usesValue, fieldFault}
 use Rattle.model.specs.Laws.Choice.{choose, either, by-test, tests, and-true-left, and-true-right, or-right, or-false-left, or-false-right, bit≤1}
@@ -19,7 +19,7 @@ abbrev pub agrees : ℕ → ℕ → (ℕ → Bool) → Bool
 agrees zero mask f = true
 agrees (suc n) mask f = eqb (mask / 2 ^ n % 2) (bit (f n)) && agrees n mask f
 
-pub bits-table : (n mask : ℕ) (f : ℕ → Bool) → agrees n mask f ≡ true → (i : ℕ) → i < n → mask / 2 ^ i % 2 ≡ bit (f i)
+bits-table : (n mask : ℕ) (f : ℕ → Bool) → agrees n mask f ≡ true → (i : ℕ) → i < n → mask / 2 ^ i % 2 ≡ bit (f i)
 bits-table zero mask f e i h = absurd (omega arith)
 bits-table (suc n) mask f e i h =
     by-test (eqb i n)
@@ -29,19 +29,19 @@ bits-table (suc n) mask f e i h =
 -- ---- a number that is one of a few
 
 -- as the definitions write it: `eqb k 1 || eqb k 2 || ..`
-abbrev pub oneOf : Bool → List ℕ → ℕ → Bool
+abbrev oneOf : Bool → List ℕ → ℕ → Bool
 oneOf b [] k = b
 oneOf b (x ∷ xs) k = oneOf (b || eqb k x) xs k
 
-abbrev pub among : List ℕ → ℕ → Bool
+abbrev among : List ℕ → ℕ → Bool
 among = oneOf false
 
-abbrev pub allTo : ℕ → List ℕ → Bool
+abbrev allTo : ℕ → List ℕ → Bool
 allTo n [] = true
 allTo n (x ∷ xs) = leb x n && allTo n xs
 
 -- what is greater than all of them is none of them
-pub past : (n : ℕ) (xs : List ℕ) → allTo n xs ≡ true → (k : ℕ) → n < k → among xs k ≡ false
+past : (n : ℕ) (xs : List ℕ) → allTo n xs ≡ true → (k : ℕ) → n < k → among xs k ≡ false
 past n [] e k h = refl
 past n (x ∷ xs) e k h =
     let z : x ≤ n = leb-true x n (and-true-left _ (allTo n xs) e) in
@@ -56,7 +56,7 @@ long-unfit kind size h =
     either (λ b. b ≡ false) (eqb kind 1 || eqb kind 2) (past 4 (1 ∷ 2 ∷ 4 ∷ []) refl size h)
     (either (λ b. b ≡ false) (eqb kind 7) (past 4 (2 ∷ 4 ∷ []) refl size h) (past 4 (0 ∷ []) refl size h))
 
--- nor a kind over 9
+-- nor a kind over 9: what `kind_fault` refuses at once
 pub beyond-fault : (r : SheetRecord) → ltb 9 (r .kind) || ltb 4 (r .size) ≡ true → kindFault r ≡ true
 unfolding kindFault
 beyond-fault r e =
@@ -64,7 +64,7 @@ beyond-fault r e =
     (λ d. rw (le-leb 1 (r .kind) (omega (arith, tests)), lt-leb (r .kind) 9 (ltb-true 9 (r .kind) d)))
     (λ d. rw (long-unfit (r .kind) (r .size) (ltb-true 4 (r .size) (or-right (ltb 9 (r .kind)) _ e d)), and-false (leb 1 (r .kind) && leb (r .kind) 9)))
 
--- the test of all kinds and sizes, five sizes a kind
+-- the table's first two columns as one rule: kind i / 5 has size i % 5
 abbrev pub fits : ℕ → Bool
 fits i = leb 1 (i / 5) && leb (i / 5) 9 && sizeFits (i / 5) (i % 5)
 
@@ -72,6 +72,7 @@ bit-clear : (b : Bool) → eqb (bit b) 0 ≡ not b
 bit-clear true = refl
 bit-clear false = refl
 
+-- the other records have a place in the table, and the bit there says whether the size is one of the kind's
 module _ (r : SheetRecord) (e : ltb 9 (r .kind) || ltb 4 (r .size) ≡ false) where
   kind≤9 : r .kind ≤ 9
   kind≤9 = ltb-false 9 (r .kind) (or-false-left _ (ltb 4 (r .size)) e)
@@ -92,7 +93,7 @@ module _ (r : SheetRecord) (e : ltb 9 (r .kind) || ltb 4 (r .size) ≡ false) wh
 
 -- ---- the other fields
 
--- a bit for each kind, as `uses` tells it: a number over 9 is in no set
+-- what `uses` gives: a kind's bit in a set of kinds; a number over 9 is in no set
 abbrev used : ℕ → ℕ → ℕ
 used mask k = if leb k 9 then mask / 2 ^ k % 2 else 0
 
@@ -148,13 +149,14 @@ value-most u true n s h = rw (s refl)
 value-most true false n s h = address-most true n h
 value-most false false n s h = address-most false n h ∙ sym (and-true (eqb n 0))
 
--- which is never more than 32 bits
-pub value-fits : (u half : Bool) → 0xFFFF_FFFF * bit (u && not half) + 0xFFFF * bit half < 2 ^ 32
-value-fits true true = omega arith
-value-fits true false = omega arith
-value-fits false true = omega arith
-value-fits false false = omega arith
+-- no kind has both widths
+pub one-width : (u half : Bool) → bit (u && not half) + bit half ≤ 1
+one-width true true = omega arith
+one-width true false = omega arith
+one-width false true = omega arith
+one-width false false = omega arith
 
+-- `field_fault` tests the fields, if its numbers are the sets of kinds
 pub field-test : (r : SheetRecord) → r .address < 2 ^ 32 → r .value < 2 ^ 32
     → (flags addresses words halves : ℕ)
     → agrees 10 flags usesFlag ≡ true

@@ -4,7 +4,7 @@ use native.Mathlib.Omega.{arith}
 use borrow.Author.Needs.{needs}
 use Rattle.model.specs.Base.{bit}
 use Rattle.model.specs.Sheet.{usesValue}
-use Rattle.records.proofs.KindBits.{usesWord, usesHalf, word-bit, half-bit, value-fits, field-test}
+use Rattle.records.proofs.KindBits.{usesWord, usesHalf, word-bit, half-bit, one-width, field-test}
 use Rattle.records.proofs.sheet.field_fault.Statement.{statement}
 use Rattle.records.proofs.sheet.field_fault.Tie as tie
 
@@ -34,7 +34,7 @@ add-value c =
     let k = c .before .before .before .before .args .r .kind in
     let w : c .before .uses3 .result ≡ bit (usesWord k) = c .before .uses3 .ensures .0 ∙ rw (word-bit k) in
     let h : c .uses4 .result ≡ bit (usesHalf k) = c .uses4 .ensures .0 ∙ rw (half-bit k) in
-    omega (arith, value-fits (usesValue k) (usesHalf k))
+    omega (arith, one-width (usesValue k) (usesHalf k))
 
 half-requires : tie.Need-half-requires
 half-requires c κs = search needs
