@@ -212,6 +212,26 @@ countedAt mode z (Sram p i) d = d
 unfoldable pub countStore : Media → State → AccessSize → ℕ → Contents
 countStore m s z a = countedAt (modeOf (m .lengths) (s .store)) z (target (m .lengths) a) (s .board .contents)
 
+abbrev pub withPc : Contents → ℕ → Contents
+withPc d a =
+    record {
+      «cpu_pc» = a;
+      «last_bios_opcode» = d .«last_bios_opcode»;
+      «vram_write_count» = d .«vram_write_count»;
+      «oam_write_count» = d .«oam_write_count»;
+      «palette_write_count» = d .«palette_write_count»;
+    }
+
+abbrev pub withLatch : Contents → ℕ → Contents
+withLatch d v =
+    record {
+      «cpu_pc» = d .«cpu_pc»;
+      «last_bios_opcode» = v;
+      «vram_write_count» = d .«vram_write_count»;
+      «oam_write_count» = d .«oam_write_count»;
+      «palette_write_count» = d .«palette_write_count»;
+    }
+
 abbrev pub contentsAfter : Media → State → Step → Contents
 contentsAfter m s (Read z a) = s .board .contents
 contentsAfter m s (Write z a v) = countStore m s z a
@@ -220,22 +240,8 @@ contentsAfter m s (Idle n) = s .board .contents
 contentsAfter m s (Fetch a) = s .board .contents
 contentsAfter m s (Restart a) = s .board .contents
 contentsAfter m s (Instruction isa a op changed) = s .board .contents
-contentsAfter m s (Pc a) =
-    record {
-      «cpu_pc» = a;
-      «last_bios_opcode» = s .board .contents .«last_bios_opcode»;
-      «vram_write_count» = s .board .contents .«vram_write_count»;
-      «oam_write_count» = s .board .contents .«oam_write_count»;
-      «palette_write_count» = s .board .contents .«palette_write_count»;
-    }
-contentsAfter m s (Latch v) =
-    record {
-      «cpu_pc» = s .board .contents .«cpu_pc»;
-      «last_bios_opcode» = v;
-      «vram_write_count» = s .board .contents .«vram_write_count»;
-      «oam_write_count» = s .board .contents .«oam_write_count»;
-      «palette_write_count» = s .board .contents .«palette_write_count»;
-    }
+contentsAfter m s (Pc a) = withPc (s .board .contents) a
+contentsAfter m s (Latch v) = withLatch (s .board .contents) v
 
 abbrev pub storeAfter : Media → State → Step → List ℕ
 storeAfter m s (Read z a) = s .store

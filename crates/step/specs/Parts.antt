@@ -64,26 +64,6 @@ steppedOf m s x =
       idle = idleOf (s .board .clock) x;
     }
 
-abbrev pub withPc : Contents → ℕ → Contents
-withPc d a =
-    record {
-      «cpu_pc» = a;
-      «last_bios_opcode» = d .«last_bios_opcode»;
-      «vram_write_count» = d .«vram_write_count»;
-      «oam_write_count» = d .«oam_write_count»;
-      «palette_write_count» = d .«palette_write_count»;
-    }
-
-abbrev pub withLatch : Contents → ℕ → Contents
-withLatch d v =
-    record {
-      «cpu_pc» = d .«cpu_pc»;
-      «last_bios_opcode» = v;
-      «vram_write_count» = d .«vram_write_count»;
-      «oam_write_count» = d .«oam_write_count»;
-      «palette_write_count» = d .«palette_write_count»;
-    }
-
 -- ---- the counters after a store
 
 -- n halfwords go to the counter of the region's memory, if it has one

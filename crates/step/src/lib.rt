@@ -90,7 +90,7 @@ fn read_step(
 }
 
 fn with_counters(contents: Contents, vram: u64, oam: u64, palette: u64) -> Contents
-    ensures { λ r. ⌜ r ≡ record { «cpu_pc» = contents .«cpu_pc»; «last_bios_opcode» = contents .«last_bios_opcode»; «vram_write_count» = vram; «oam_write_count» = oam; «palette_write_count» = palette } ⌝ }
+    ensures { λ r. ⌜ r ≡ machine.withCounts contents vram oam palette ⌝ }
 {
     Contents {
         cpu_pc: contents.cpu_pc,
@@ -311,7 +311,7 @@ fn instruction_step(
 
 // PC: `cpu_pc`.
 fn with_pc(contents: Contents, pc: u32) -> Contents
-    ensures { λ r. ⌜ r ≡ def.withPc contents pc ⌝ }
+    ensures { λ r. ⌜ r ≡ machine.withPc contents pc ⌝ }
 {
     Contents {
         cpu_pc: pc,
@@ -324,7 +324,7 @@ fn with_pc(contents: Contents, pc: u32) -> Contents
 
 // LATCH: `last_bios_opcode`.
 fn with_latch(contents: Contents, latch: u32) -> Contents
-    ensures { λ r. ⌜ r ≡ def.withLatch contents latch ⌝ }
+    ensures { λ r. ⌜ r ≡ machine.withLatch contents latch ⌝ }
 {
     Contents {
         cpu_pc: contents.cpu_pc,
