@@ -1,0 +1,368 @@
+//! The Rust's side: document 01's run done by the Rust's own functions, as leanly as it can be called.
+//! Nothing is allocated or copied in a run but the 72 bytes of the board: the memories are the bus's own `Vec`s, set up before.
+//! It does the same work as `bts_run`: it examines header, board and records, runs, and writes answers and board.
+
+use crate::bus::prefetch::PrefetchParts;
+use crate::bus::region::{decode, Region};
+use crate::bus::wait::{AccessKind, AccessSize, RomWindow, WaitTables};
+use crate::bus::{Bus, CpuMem, OpenBusState, PrefetchBuffer, WaitCnt};
+use crate::bytes::*;
+use crate::cpu::timing::{price_insn, TimingInput};
+use crate::cpu::IsaState;
+use crate::memories::{Memories, SIZES};
+
+/// The bus; beside it the prefetch, so that `tick_idle` can have it and the bus's read at once without a copy; and WAITCNT,
+/// which the bus doesn't hold.
+pub struct Machine {
+    bus: Bus,
+    prefetch: PrefetchBuffer,
+    waitcnt: WaitCnt,
+}
+
+/// What a step gives, but for the count and the force flag, which are read off afterwards; and its idle cycles, so that the
+/// prefetch is ticked at one place, which is quicker.
+struct Done {
+    value: u32,
+    cycles: u32,
+    hits: u8,
+    idle: u32,
+}
+
+const NOTHING: Done = Done { value: 0, cycles: 0, hits: 0, idle: 0 };
+
+impl Machine {
+    pub fn new(m: &Memories) -> Machine {
+        let mut rest: &[u8] = &m.store;
+        let mut parts = m.lengths.iter().map(|&length| {
+            let (part, after) = rest.split_at(length);
+            rest = after;
+            part.to_vec()
+        });
+        let mut part = || parts.next().unwrap();
+        let bus = Bus {
+            ewram: part(),
+            iwram: part(),
+            io: part(),
+            palette: part(),
+            vram: part(),
+            oam: part(),
+            sram: part(),
+            bios: m.bios.clone(),
+            rom: m.rom.clone(),
+            ..Bus::new()
+        };
+        Machine { bus, prefetch: PrefetchBuffer::new(), waitcnt: WaitCnt::power_on() }
+    }
+
+    /// The seven memories of the store, in its order.
+    pub fn parts(&self) -> [&[u8]; 7] {
+        let b = &self.bus;
+        [&b.ewram, &b.iwram, &b.io, &b.palette, &b.vram, &b.oam, &b.sram]
+    }
+
+    /// The run. Never inlined, as the library's isn't.
+    #[inline(never)]
+    pub fn run(&mut self, sheet: &[u8], board: &mut [u8], answers: &mut [u8]) -> Report {
+        if let Some((number, index)) = self.refusal(sheet, board, answers) {
+            return Report { number, index, total: 0 };
+        }
+        self.load_board(board);
+        let mut total = 0u64;
+        let records = sheet[HEADER..].chunks_exact(RECORD);
+        let index = records.len() as u32;
+        for (record, out) in records.zip(answers.chunks_exact_mut(ANSWER)) {
+            let done = self.step(&Fields::of(record));
+            self.tick_idle(done.idle);
+            total += u64::from(done.cycles);
+            out[0..4].copy_from_slice(&done.value.to_le_bytes());
+            out[4..8].copy_from_slice(&done.cycles.to_le_bytes());
+            out[8] = done.hits;
+            out[9] = self.prefetch.len() as u8;
+            out[10] = u8::from(self.bus.force_next_fetch_n);
+            out[11] = 0;
+        }
+        self.store_board(board);
+        Report { number: 0, index, total }
+    }
+
+    // ---- the examination ----
+
+    /// The first condition of document 01's table that is met, as (number, index).
+    fn refusal(&self, sheet: &[u8], board: &[u8], answers: &[u8]) -> Option<(u32, u32)> {
+        if sheet.len() < HEADER || sheet[0..3] != *b"BTS" {
+            return Some((1, 0));
+        }
+        if u16_at(sheet, 3) != 1 {
+            return Some((2, 0));
+        }
+        let n = usize::from(u16_at(sheet, 6));
+        if sheet[5] != 0 || n > MOST_RECORDS || sheet.len() != HEADER + RECORD * n {
+            return Some((3, 0));
+        }
+        // the bus has its memories in `Vec`s of their own, so that there is no sum to test
+        let over = self.parts().iter().zip(SIZES).any(|(part, size)| part.len() > size);
+        if over {
+            return Some((4, 0));
+        }
+        if board.len() != BOARD || !Board::of(board).sound() {
+            return Some((5, 0));
+        }
+        if answers.len() < ANSWER * n {
+            return Some((6, 0));
+        }
+        let mut records = sheet[HEADER..].chunks_exact(RECORD);
+        let least = records.position(|record| Fields::of(record).faulty())?;
+        Some((7, least as u32))
+    }
+
+    // ---- the board ----
+
+    fn load_board(&mut self, bytes: &[u8]) {
+        let b = Board::of(bytes);
+        self.waitcnt = WaitCnt::from_u16(b.waitcnt);
+        self.bus.wait_tables = self.waitcnt.to_tables();
+        self.bus.force_next_fetch_n = b.force == 1;
+        self.bus.cpu_pc = b.pc;
+        self.bus.open_bus = OpenBusState { last_bios_opcode: b.latch };
+        self.bus.vram_write_count = b.vram;
+        self.bus.oam_write_count = b.oam;
+        self.bus.palette_write_count = b.palette;
+        self.prefetch = PrefetchBuffer::from_parts(PrefetchParts {
+            enabled: b.prefetch_on(),
+            buf: b.halfwords,
+            head: usize::from(b.head),
+            count: usize::from(b.count),
+            next_addr: b.next,
+            wait_left: b.wait_left,
+            filling: b.filling == 1,
+            head_addr: b.head_addr,
+            first_beat: b.first_beat == 1,
+        });
+    }
+
+    fn store_board(&self, out: &mut [u8]) {
+        let p = self.prefetch.parts();
+        out[0..2].copy_from_slice(&self.waitcnt.raw().to_le_bytes());
+        out[2] = u8::from(self.bus.force_next_fetch_n);
+        out[3] = p.head as u8;
+        out[4] = p.count as u8;
+        out[5] = u8::from(p.filling);
+        out[6] = u8::from(p.first_beat);
+        out[8..12].copy_from_slice(&p.wait_left.to_le_bytes());
+        out[12..16].copy_from_slice(&p.next_addr.to_le_bytes());
+        out[16..20].copy_from_slice(&p.head_addr.to_le_bytes());
+        for (out, half) in out[20..36].chunks_exact_mut(2).zip(p.buf) {
+            out.copy_from_slice(&half.to_le_bytes());
+        }
+        out[36..40].copy_from_slice(&self.bus.cpu_pc.to_le_bytes());
+        out[40..44].copy_from_slice(&self.bus.open_bus.last_bios_opcode.to_le_bytes());
+        out[44..52].copy_from_slice(&self.bus.vram_write_count.to_le_bytes());
+        out[52..60].copy_from_slice(&self.bus.oam_write_count.to_le_bytes());
+        out[60..68].copy_from_slice(&self.bus.palette_write_count.to_le_bytes());
+    }
+
+    // ---- a step ----
+
+    #[inline(always)]
+    fn step(&mut self, r: &Fields) -> Done {
+        match r.kind() {
+            READ => {
+                let value = self.read(r.size(), r.address);
+                Done { value, cycles: self.data_price(r.size(), r.address), hits: 0, idle: 0 }
+            }
+            WRITE => {
+                self.write(r.size(), r.address, r.value);
+                Done { value: 0, cycles: self.data_price(r.size(), r.address), hits: 0, idle: 0 }
+            }
+            WAITCNT => {
+                self.waitcnt.write(r.value as u16);
+                self.bus.wait_tables.apply_waitcnt(self.waitcnt);
+                self.prefetch.set_enabled(self.waitcnt.prefetch_enable());
+                NOTHING
+            }
+            IDLE => Done { value: 0, cycles: r.value, hits: 0, idle: r.value },
+            FETCH => match self.prefetch.try_fetch_half(r.address) {
+                Some(half) => Done { value: u32::from(half), cycles: 0, hits: 1, idle: 0 },
+                None => NOTHING,
+            },
+            RESTART => {
+                self.prefetch.restart(r.address, self.bus.wait_tables);
+                NOTHING
+            }
+            INSTRUCTION => self.instruction(r),
+            PC => {
+                self.bus.cpu_pc = r.address;
+                NOTHING
+            }
+            _ => {
+                self.bus.open_bus.last_bios_opcode = r.value;
+                NOTHING
+            }
+        }
+    }
+
+    #[inline(always)]
+    fn read(&mut self, size: u8, address: u32) -> u32 {
+        match size {
+            1 => u32::from(self.bus.read8(address)),
+            2 => u32::from(self.bus.read16(address)),
+            _ => self.bus.read32(address),
+        }
+    }
+
+    #[inline(always)]
+    fn write(&mut self, size: u8, address: u32, value: u32) {
+        match size {
+            1 => self.bus.write8(address, value as u8),
+            2 => self.bus.write16(address, value as u16),
+            _ => self.bus.write32(address, value),
+        }
+    }
+
+    /// `tick_idle`, its reader being the bus's halfword read.
+    fn tick_idle(&mut self, cycles: u32) {
+        let Machine { bus, prefetch, .. } = self;
+        prefetch.tick_idle(cycles, bus.wait_tables, |address| bus.read16(address));
+    }
+
+    /// Kind 7 up to its idle cycles; the force flag that it leaves has no part in them.
+    fn instruction(&mut self, r: &Fields) -> Done {
+        let (isa, halves, opcode) = match r.size() {
+            2 => (IsaState::Thumb, 1, r.value & 0xFFFF),
+            _ => (IsaState::Arm, 2, r.value),
+        };
+        let input = TimingInput {
+            isa,
+            code_addr: r.address,
+            opcode_raw: opcode,
+            pc_changed: r.flag() == 1,
+            prefetch_enabled: self.waitcnt.prefetch_enable(),
+            force_fetch_n: self.bus.force_next_fetch_n,
+        };
+        let price = price_insn(input, self.bus.wait_tables, &self.prefetch);
+        let hits = match RomWindow::from_addr(r.address) {
+            Some(_) => self.fetch_code(r.address, halves),
+            None => 0,
+        };
+        self.bus.force_next_fetch_n = price.latch_disable_bug;
+        Done { value: price.cart_idle, cycles: price.total, hits, idle: price.cart_idle }
+    }
+
+    /// `try_fetch_half` for each halfword; on any miss `restart` after the last one. The hits.
+    fn fetch_code(&mut self, address: u32, halves: u32) -> u8 {
+        let mut hits = 0;
+        for i in 0..halves {
+            if self.prefetch.try_fetch_half(address.wrapping_add(2 * i)).is_some() {
+                hits += 1;
+            }
+        }
+        if u32::from(hits) < halves {
+            let after = address.wrapping_add(2 * halves);
+            self.prefetch.restart(after, self.bus.wait_tables);
+        }
+        hits
+    }
+
+    /// Document 01's data price: by the region of the address, every access nonsequential.
+    #[inline(always)]
+    fn data_price(&self, size: u8, address: u32) -> u32 {
+        let tables = self.bus.wait_tables;
+        let access = match size {
+            1 => AccessSize::Byte,
+            2 => AccessSize::Half,
+            _ => AccessSize::Word,
+        };
+        let rom = |window| match size {
+            4 => tables.rom_word_cycles(window, AccessKind::Nonseq),
+            _ => tables.rom_half_cycles(window, AccessKind::Nonseq),
+        };
+        match decode(address) {
+            Region::GamePakRomWs0 => rom(RomWindow::Ws0),
+            Region::GamePakRomWs1 => rom(RomWindow::Ws1),
+            Region::GamePakRomWs2 => rom(RomWindow::Ws2),
+            Region::Ewram => tables.ewram_cycles(access),
+            Region::Palette | Region::Vram => WaitTables::video_ram_cycles(access),
+            Region::GamePakSram => tables.sram_byte_cycles(),
+            _ => WaitTables::fixed_fast_cycles(access),
+        }
+    }
+}
+
+// ---- records, read by words ----
+
+/// A record: its first four bytes as one number, then address and value.
+struct Fields {
+    head: u32,
+    address: u32,
+    value: u32,
+}
+
+impl Fields {
+    #[inline(always)]
+    fn of(bytes: &[u8]) -> Fields {
+        let b: &[u8; RECORD] = bytes.try_into().unwrap();
+        Fields {
+            head: u32::from_le_bytes([b[0], b[1], b[2], b[3]]),
+            address: u32::from_le_bytes([b[4], b[5], b[6], b[7]]),
+            value: u32::from_le_bytes([b[8], b[9], b[10], b[11]]),
+        }
+    }
+
+    #[inline(always)]
+    fn kind(&self) -> u8 {
+        self.head as u8
+    }
+
+    #[inline(always)]
+    fn size(&self) -> u8 {
+        (self.head >> 8) as u8
+    }
+
+    #[inline(always)]
+    fn flag(&self) -> u8 {
+        (self.head >> 16) as u8
+    }
+
+    /// Without a jump on the kind: what a kind allows is looked up.
+    #[inline(always)]
+    fn faulty(&self) -> bool {
+        let rule = &RULES[(self.head & 15) as usize];
+        let size_and_flag = (self.head >> 8 & 7) | (self.head >> 13 & 8);
+        (self.head & !(15 | 7 << 8 | 1 << 16) != 0)
+            | (rule.sizes_and_flags >> size_and_flag & 1 == 0)
+            | (self.address & rule.no_address != 0)
+            | (self.value & rule.no_value != 0)
+    }
+}
+
+/// What a kind allows: the sizes (bits 0 to 7, or 8 to 15 with flag 1); and the bits that address and value must not have.
+#[derive(Clone, Copy)]
+struct Rule {
+    sizes_and_flags: u32,
+    no_address: u32,
+    no_value: u32,
+}
+
+const ALL: u32 = u32::MAX;
+const NO_SIZE: u32 = 1 << 0;
+const ANY_SIZE: u32 = 1 << 1 | 1 << 2 | 1 << 4;
+const CODE_SIZE: u32 = (1 << 2 | 1 << 4) * 0x101;
+
+const fn rule(sizes_and_flags: u32, no_address: u32, no_value: u32) -> Rule {
+    Rule { sizes_and_flags, no_address, no_value }
+}
+
+/// By kind; those outside the table allow no size.
+static RULES: [Rule; 16] = {
+    let mut rules = [rule(0, 0, 0); 16];
+    rules[READ as usize] = rule(ANY_SIZE, 0, ALL);
+    rules[WRITE as usize] = rule(ANY_SIZE, 0, 0);
+    rules[WAITCNT as usize] = rule(NO_SIZE, ALL, !0xFFFF);
+    rules[IDLE as usize] = rule(NO_SIZE, ALL, 0);
+    rules[FETCH as usize] = rule(NO_SIZE, 0, ALL);
+    rules[RESTART as usize] = rule(NO_SIZE, 0, ALL);
+    rules[INSTRUCTION as usize] = rule(CODE_SIZE, 0, 0);
+    rules[PC as usize] = rule(NO_SIZE, 0, ALL);
+    rules[LATCH as usize] = rule(NO_SIZE, ALL, 0);
+    rules
+};
