@@ -28,6 +28,26 @@ pub const FIGURES: &[(&str, &str)] = &[
     // the Rust: the common commercial setting is WS0 3,1; SRAM 8; WS2 8,8; prefetch on
     ("WAITCNT 0x4317, READ 2 at 0x08000000, READ 4 at 0x08000000, READ 1 at 0x0E000000, READ 2 at 0x0C000000, READ 4 at 0x0C000000", "cycles 4, 6, 9, 9, 18"),
     ("WAITCNT 0x4317", "board WAITCNT 0x4317"),
+    // the Rust: first accesses wait 4, 3, 2 or 8, second ones 2, 4 or 8 by window, or 1
+    ("WAITCNT 0x0125, READ 1 at 0x0E000000, READ 2 at 0x0A000000", "cycles 0, 4, 4"),
+    ("WAITCNT 0x024A, READ 1 at 0x0E000000, READ 2 at 0x0A000000", "cycles 0, 3, 3"),
+    ("WAITCNT 0x036F, READ 1 at 0x0E000000, READ 2 at 0x0A000000", "cycles 0, 9, 9"),
+    ("READ 4 at 0x08000000, WAITCNT 0x0010, READ 4 at 0x08000000", "cycles 8, 0, 7"),
+    ("READ 4 at 0x0A000000, WAITCNT 0x0080, READ 4 at 0x0A000000", "cycles 10, 0, 7"),
+    ("READ 4 at 0x0C000000, WAITCNT 0x0400, READ 4 at 0x0C000000", "cycles 14, 0, 7"),
+    // the Rust: mirrors
+    ("WRITE 4 of 0x12345678 at 0x02000000, READ 4 at 0x02FC0000", "value 0x12345678"),
+    ("WRITE 4 of 0x12345678 at 0x03000000, READ 4 at 0x03FF8000", "value 0x12345678"),
+    ("WRITE 2 of 0x1234 at 0x05000000, READ 2 at 0x05FFFC00", "value 0x1234"),
+    ("WRITE 2 of 0x1234 at 0x07000000, READ 2 at 0x07FFFC00", "value 0x1234"),
+    ("WRITE 2 of 3 at 0x04000000, READ 2 at 0x04010000", "value 0"),
+    // the Rust: a closed BIOS gives the latch's bytes; byte stores to video memory
+    ("PC 0x08000000, LATCH 0x44332211, READ 4 at 0x00000000", "cycles 0, 0, 1, value 0x44332211"),
+    ("PC 0x08000000, LATCH 0x44332211, READ 2 at 0x00000001", "value 0x3322"),
+    ("WRITE 1 of 0x5A at 0x05000001, READ 2 at 0x05000000", "value 0x5A5A"),
+    ("WRITE 1 of 0x5A at 0x07000000, READ 2 at 0x07000000", "value 0"),
+    // the Rust: the disable bug
+    ("ARM 0xE5910000 at 0x08000100, ARM 0xE1A00000 at 0x08000104, ARM 0xE1A00000 at 0x08000108", "cycles 7, 8, 6"),
     // the Rust: both 32 KiB halves from 0x10000 are one; the word at 0x800 repeats every 64 KiB
     ("VRAM of 98,304 bytes, WRITE 2 of 0x1234 at 0x06010000, READ 2 at 0x06018000", "value 0x1234"),
     ("WRITE 4 of 0x12345678 at 0x04FF0800, READ 4 at 0x04000800", "value 0x12345678"),

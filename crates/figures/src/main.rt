@@ -50,6 +50,25 @@ fn instruction(size: u8, address: u32, value: u32) -> Row {
     }
 }
 
+// PC sets the pc that gates the BIOS, LATCH what loads of the closed BIOS give.
+fn pc(address: u32) -> Row {
+    Row {
+        kind: 8,
+        size: 0,
+        address,
+        value: 0,
+    }
+}
+
+fn latch(value: u32) -> Row {
+    Row {
+        kind: 9,
+        size: 0,
+        address: 0,
+        value,
+    }
+}
+
 fn low(v: u32) -> u8 {
     (v % 256) as u8
 }
@@ -184,6 +203,108 @@ fn common_setting() {
     );
 }
 
+// Each field of WAITCNT.
+fn wait_fields() {
+    show(
+        b"First access, field 1: 4",
+        waitcnt(0x0125),
+        read(1, 0x0E00_0000),
+        read(2, 0x0A00_0000),
+    );
+    show(
+        b"First access, field 2: 3",
+        waitcnt(0x024A),
+        read(1, 0x0E00_0000),
+        read(2, 0x0A00_0000),
+    );
+    show(
+        b"First access, field 3: 9",
+        waitcnt(0x036F),
+        read(1, 0x0E00_0000),
+        read(2, 0x0A00_0000),
+    );
+    show(
+        b"Second access in WS0: 3 or 2",
+        read(4, 0x0800_0000),
+        waitcnt(0x0010),
+        read(4, 0x0800_0000),
+    );
+    show(
+        b"Second access in WS1: 5 or 2",
+        read(4, 0x0A00_0000),
+        waitcnt(0x0080),
+        read(4, 0x0A00_0000),
+    );
+    show(
+        b"Second access in WS2: 9 or 2",
+        read(4, 0x0C00_0000),
+        waitcnt(0x0400),
+        read(4, 0x0C00_0000),
+    );
+}
+
+// Which addresses are one place.
+fn mirrors() {
+    show(
+        b"EWRAM repeats every 0x40000",
+        write(4, 0x0200_0000, 0x1234_5678),
+        read(4, 0x0204_0000),
+        read(4, 0x02FC_0000),
+    );
+    show(
+        b"IWRAM repeats every 0x8000",
+        write(4, 0x0300_0000, 0x1234_5678),
+        read(4, 0x0300_8000),
+        read(4, 0x03FF_8000),
+    );
+    show(
+        b"Palette repeats every 0x400",
+        write(2, 0x0500_0000, 0x1234),
+        read(2, 0x0500_0400),
+        read(2, 0x05FF_FC00),
+    );
+    show(
+        b"OAM repeats every 0x400",
+        write(2, 0x0700_0000, 0x1234),
+        read(2, 0x0700_0400),
+        read(2, 0x07FF_FC00),
+    );
+    show(
+        b"I/O does not repeat",
+        write(2, 0x0400_0000, 3),
+        read(2, 0x0400_0000),
+        read(2, 0x0401_0000),
+    );
+}
+
+// What a closed BIOS gives, and what becomes of a byte store to video memory.
+fn latch_and_video() {
+    show(
+        b"BIOS 1; closed, it gives the latch",
+        pc(0x0800_0000),
+        latch(0x4433_2211),
+        read(4, 0x0000_0000),
+    );
+    show(
+        b"The latch's bytes by address bits 0 and 1",
+        pc(0x0800_0000),
+        latch(0x4433_2211),
+        read(2, 0x0000_0001),
+    );
+    show(
+        b"A byte store fills its halfword",
+        write(1, 0x0500_0001, 0x5A),
+        read(2, 0x0500_0000),
+        read(1, 0x0500_0000),
+    );
+    show(
+        b"A byte store to OAM is dropped",
+        write(1, 0x0700_0000, 0x5A),
+        read(2, 0x0700_0000),
+        read(1, 0x0700_0000),
+    );
+}
+
 // Where a load and a store go.
 fn places() {
     show(
@@ -232,11 +353,20 @@ fn instructions() {
         instruction(2, 0x0802_0001, 0x1C00),
         instruction(4, 0x0801_FFFE, 0xE1A0_0000),
     );
+    show(
+        b"The disable bug: the fetch after an internal cycle is nonsequential",
+        instruction(4, 0x0800_0100, 0xE591_0000),
+        instruction(4, 0x0800_0104, 0xE1A0_0000),
+        instruction(4, 0x0800_0108, 0xE1A0_0000),
+    );
 }
 
 fn main() {
     data_prices();
     common_setting();
+    wait_fields();
+    mirrors();
+    latch_and_video();
     places();
     instructions();
 }
