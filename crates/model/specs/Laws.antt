@@ -12,6 +12,7 @@ pub mod Switch
 pub mod Sound
 pub mod SoundTest
 pub mod Beats
+pub mod Commits
 pub mod RomLoad
 pub mod Run
 pub mod Codec

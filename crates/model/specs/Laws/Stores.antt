@@ -1,8 +1,10 @@
--- Rules of stores: bytes of the store that no rule names stay, and what SRAM drops, shown once for all three sizes.
+-- Rules of stores: bytes of the store that no rule names stay, what SRAM drops, and how many halfwords a store counts; shown once for
+-- all three sizes.
 use mathlib.Core.Path.{_≡_, refl, sym, _∙_}
 use mathlib.Core.Logic.{_⊎_, inl, inr}
 use mathlib.Core.List.{List, [], _∷_}
 use Prim.Native.Nat.{ℕ, _%_, _≤_}
+use native.Mathlib.Omega.{arith}
 use lib.ListN.{getD, set}
 use lib.Seq.{getD-set-other}
 use borrow.Author.Tests.{le-ltb}
@@ -10,8 +12,9 @@ use Rattle.model.specs.Base.{byteOf}
 use Rattle.model.specs.Region.{decode}
 use Rattle.model.specs.Mirror.{sramOffset}
 use Rattle.model.specs.Load.{Part, sramPart}
-use Rattle.model.specs.Store.{Put, landed, put, target, puts8, puts16, puts32, puts}
-use Rattle.model.specs.Laws.Choice.{if-false}
+use Rattle.model.specs.Store.{Put, landed, put, Target, Dropped, Plain, Video, Sram, target, puts8, puts16, puts32, puts, videoCount}
+use Rattle.model.specs.Video.{fills}
+use Rattle.model.specs.Laws.Choice.{if-false, bit≤1}
 use Rattle.model.specs.declared.Region.the-variants.{GamePakSram}
 use Rattle.model.specs.declared.AccessSize.{AccessSize}
 use Rattle.model.specs.declared.AccessSize.the-variants.{Byte, Half, Word}
@@ -40,3 +43,13 @@ unfolding target puts8 puts16 puts32
 sram-past l mode Byte a v e h = rw e (put-past (sramPart l) (sramOffset a) (v % 256) h)
 sram-past l mode Half a v e h = rw e (put-past (sramPart l) (sramOffset a) (byteOf (a % 2) v) h)
 sram-past l mode Word a v e h = rw e (put-past (sramPart l) (sramOffset a) (byteOf (a % 4) v) h)
+
+-- ---- a store counts at most two halfwords
+
+pub few-counted : (mode : ℕ) (z : AccessSize) (t : Target) → videoCount mode z t ≤ 2
+few-counted mode z Dropped = omega arith
+few-counted mode z (Plain p i) = omega arith
+few-counted mode Byte (Video m p i) = omega (arith, bit≤1 (fills mode m i))
+few-counted mode Half (Video m p i) = omega arith
+few-counted mode Word (Video m p i) = omega arith
+few-counted mode z (Sram p i) = omega arith
