@@ -92,7 +92,7 @@ fn rom_byte(rom: &[u8], addr: u32) -> u8
 }
 
 // `read_half`: the halfword load of the bus inside the ROM windows.
-pub fn rom_half(rom: &[u8], addr: u32) -> u16
+fn rom_half(rom: &[u8], addr: u32) -> u16
     ensures { λ r. ⌜ r ≡ load.romHalfword (now (rom .entry)) addr ⌝ }
 {
     let low = rom_byte(rom, addr);
