@@ -15,6 +15,7 @@ pub mod Beats
 pub mod RomLoad
 pub mod Run
 pub mod Codec
+pub mod Spans
 pub mod Timing
 pub mod Refusal
 pub mod Limits
