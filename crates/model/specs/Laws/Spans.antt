@@ -1,20 +1,19 @@
 -- Loads whose bytes stand one after the other in one memory: such a load is the number in those bytes, for every size. It holds up to
 -- the memory's length, and no further than its physical size, where an address comes round to the memory's start.
 use mathlib.Core.Path.{_≡_, refl, sym, _∙_, ap, ap₂}
-use mathlib.Core.Bool.{Bool, true, false}
+use mathlib.Core.Bool.{false}
 use mathlib.Core.List.{List}
-use Prim.Native.Nat.{ℕ, _+_, _*_, _%_, _^_, _≤_, _<_, min}
+use Prim.Native.Nat.{ℕ, _+_, _*_, _/_, _%_, _^_, _≤_, _<_, min}
 use native.Mathlib.Omega.{arith}
-use native.Mathlib.Nat.{add-zero, add-assoc, add-mul-mod-self-left, mod-eq-of-lt}
-use lib.ListN.{length, getD}
+use native.Mathlib.Nat.{add-zero, add-assoc, add-mul-mod-self-left, mod-eq-of-lt, mod-add-div, add-mul-div-left, div-eq-of-lt, div-div-eq-div-mul}
 use lib.Dec.{eqb, ltb}
 use borrow.Author.Tests.{eqb-true, ltb-true, ltb-false, lt-ltb, le-ltb}
-use Rattle.model.specs.Base.{if_then_else_, further, byteAt, number, AllBytes}
-use Rattle.model.specs.Region.{page, biosSize, ewramSize, iwramSize, paletteSize, vramSize, oamSize, romSize, regionAt, decode}
+use Rattle.model.specs.Base.{further, byteAt, number, AllBytes}
+use Rattle.model.specs.Region.{page, biosSize, ewramSize, iwramSize, paletteSize, vramSize, oamSize, romSize, decode}
 use Rattle.model.specs.Mirror.{ewramOffset, iwramOffset, paletteOffset, vramOffset, oamOffset, romOffset}
 use Rattle.model.specs.Wait.{sizeBytes}
 use Rattle.model.specs.Load.{Bus, Part, ewramPart, iwramPart, palettePart, vramPart, oamPart, lengthsSum, byteIn, isSram, load8In, load8, load16, load32, load}
-use Rattle.model.specs.Laws.Choice.{choose, either, by-test, if-true, if-false, tests, eqb-ne}
+use Rattle.model.specs.Laws.Choice.{either, by-test, if-true, if-false, tests}
 use Rattle.model.specs.Laws.Places.{vram-within}
 use Rattle.model.specs.Laws.Window.{InRom}
 use Rattle.model.specs.Laws.RomLoad.{rom-byte, rom-plain}
@@ -75,14 +74,14 @@ pub record Place : Type 0 where
   pub size : ℕ
   pub index : ℕ
 
--- in a part of the store that shows no more than n bytes
+-- in a part of the store, of which addresses show no more than n bytes
 abbrev pub placed : Part → ℕ → ℕ → Place
 placed p n i = record { base = p .base; size = min (p .size) n; index = i }
 
 abbrev pub nowhere : Place
 nowhere = record { base = 0; size = 0; index = 0 }
 
--- I/O has gaps and SRAM another length
+-- by the region; I/O has gaps, SRAM comes round at the chip's length, a BIOS load may give the latch, and ROM is no part of the store
 abbrev pub placeIn : Lengths → ℕ → Region → Place
 placeIn l a Bios = nowhere
 placeIn l a UnusedLow = nowhere
@@ -118,17 +117,39 @@ place-kept l a GamePakRomWs2 = omega arith
 place-kept l a GamePakSram = omega arith
 place-kept l a UnusedHigh = omega arith
 
--- what lies i bytes further, with r the region of a
-record Further (b : Bus) (a i : ℕ) (r : Region) (p : Place) : Type 0 where
+-- what lies i bytes further than a: the byte g, with r its region, at a place p that a has
+record Further (b : Bus) (a i g : ℕ) (r : Region) (p : Place) : Type 0 where
   near : page (a + i) ≡ page a
-  byte : load8In b (a + i) r ≡ byteAt (b .store) (p .base + p .index + i)
+  byte : g ≡ byteAt (b .store) (p .base + p .index + i)
   plain : isSram r ≡ false
 
 byte-there : (s : List ℕ) (p : Part) (i j k : ℕ) → k ≡ i + j → i + j < p .size → byteIn s p k ≡ byteAt s (p .base + i + j)
 unfolding byteIn
 byte-there s p i j k e h = if-true _ _ _ (lt-ltb k (p .size) (omega arith)) ∙ ap (byteAt s) (omega arith)
 
--- 64, 32, and the same 32 again: the first two stand one after the other
+-- a memory of m bytes that repeats k times over its page
+module _ (m a i : ℕ) (h : a % m + i < m) where
+  split : a + i ≡ a % m + i + m * (a / m)
+  split = omega (arith, mod-add-div a m)
+
+  mirror-step : (a + i) % m ≡ a % m + i
+  mirror-step = ap (λ (x : ℕ). x % m) split ∙ add-mul-mod-self-left (a % m + i) m (a / m) ∙ mod-eq-of-lt h
+
+  mirror-near : (k : ℕ) → m * k ≡ 0x100_0000 → page (a + i) ≡ page a
+  mirror-near k e =
+      let same : (a + i) / m ≡ a / m = ap (λ (x : ℕ). x / m) split ∙ add-mul-div-left (a % m + i) (a / m) (omega arith) ∙ omega (arith, div-eq-of-lt h) in
+      rw (← e, ← div-div-eq-div-mul (a + i) m k, same) (div-div-eq-div-mul a m k)
+
+mirrored : (b : Bus) (a i : ℕ) (r : Region) (p : Part) (m k : ℕ) → isSram r ≡ false → m * k ≡ 0x100_0000 → a % m + i < min (p .size) m
+    → Further b a i (byteIn (b .store) p ((a + i) % m)) r (placed p m (a % m))
+mirrored b a i r p m k s e h =
+    record {
+      near = mirror-near m a i (omega arith) k e;
+      byte = byte-there (b .store) p (a % m) i ((a + i) % m) (mirror-step m a i (omega arith)) (omega arith);
+      plain = s;
+    }
+
+-- VRAM repeats 64 KiB, 32, and the same 32 again: the first two stand one after the other
 vram-low : (a : ℕ) → a % 0x20000 < 0x10000 → vramOffset a ≡ a % 0x20000
 unfolding vramOffset
 vram-low a h = if-true _ _ _ (lt-ltb (a % 0x20000) 0x10000 h)
@@ -149,48 +170,27 @@ vram-further a i h =
     (λ e. let o = vram-high a (ltb-false (a % 0x20000) 0x10000 e) in
     (omega (arith, tests), omega (arith, tests, vram-high (a + i) (omega (arith, tests)))))
 
-further-in : (b : Bus) (a i : ℕ) (r : Region) → i ≤ 3
-    → (placeIn (b .lengths) a r) .index + i < (placeIn (b .lengths) a r) .size
-    → Further b a i r (placeIn (b .lengths) a r)
-further-in b a i Bios t h = absurd (omega arith)
-further-in b a i UnusedLow t h = absurd (omega arith)
-further-in b a i Ewram t h =
-    record {
-      near = omega arith;
-      byte = byte-there (b .store) (ewramPart (b .lengths)) (ewramOffset a) i (ewramOffset (a + i)) (omega arith) (omega arith);
-      plain = refl;
-    }
-further-in b a i Iwram t h =
-    record {
-      near = omega arith;
-      byte = byte-there (b .store) (iwramPart (b .lengths)) (iwramOffset a) i (iwramOffset (a + i)) (omega arith) (omega arith);
-      plain = refl;
-    }
-further-in b a i Io t h = absurd (omega arith)
-further-in b a i Palette t h =
-    record {
-      near = omega arith;
-      byte = byte-there (b .store) (palettePart (b .lengths)) (paletteOffset a) i (paletteOffset (a + i)) (omega arith) (omega arith);
-      plain = refl;
-    }
-further-in b a i Vram t h =
+further-in : (b : Bus) (a i : ℕ) (r : Region) → (placeIn (b .lengths) a r) .index + i < (placeIn (b .lengths) a r) .size
+    → Further b a i (load8In b (a + i) r) r (placeIn (b .lengths) a r)
+further-in b a i Bios h = absurd (omega arith)
+further-in b a i UnusedLow h = absurd (omega arith)
+further-in b a i Ewram h = mirrored b a i Ewram (ewramPart (b .lengths)) ewramSize 0x40 refl refl h
+further-in b a i Iwram h = mirrored b a i Iwram (iwramPart (b .lengths)) iwramSize 0x200 refl refl h
+further-in b a i Io h = absurd (omega arith)
+further-in b a i Palette h = mirrored b a i Palette (palettePart (b .lengths)) paletteSize 0x4000 refl refl h
+further-in b a i Vram h =
     let v = vram-further a i (omega arith) in
     record {
       near = v .0;
       byte = byte-there (b .store) (vramPart (b .lengths)) (vramOffset a) i (vramOffset (a + i)) (v .1) (omega arith);
       plain = refl;
     }
-further-in b a i Oam t h =
-    record {
-      near = omega arith;
-      byte = byte-there (b .store) (oamPart (b .lengths)) (oamOffset a) i (oamOffset (a + i)) (omega arith) (omega arith);
-      plain = refl;
-    }
-further-in b a i GamePakRomWs0 t h = absurd (omega arith)
-further-in b a i GamePakRomWs1 t h = absurd (omega arith)
-further-in b a i GamePakRomWs2 t h = absurd (omega arith)
-further-in b a i GamePakSram t h = absurd (omega arith)
-further-in b a i UnusedHigh t h = absurd (omega arith)
+further-in b a i Oam h = mirrored b a i Oam (oamPart (b .lengths)) oamSize 0x4000 refl refl h
+further-in b a i GamePakRomWs0 h = absurd (omega arith)
+further-in b a i GamePakRomWs1 h = absurd (omega arith)
+further-in b a i GamePakRomWs2 h = absurd (omega arith)
+further-in b a i GamePakSram h = absurd (omega arith)
+further-in b a i UnusedHigh h = absurd (omega arith)
 
 -- page 0 has no such memory
 low-empty : (l : Lengths) (a : ℕ) → page a ≡ 0 → (placeIn l a (decode a)) .size ≡ 0
@@ -213,8 +213,8 @@ module _ (b : Bus) (a : ℕ) (t : a < 2 ^ 32) where
         plain = λ i k. simp (there i k, same i k) ((next i k) .plain);
       }
     where
-      next : (i : ℕ) → i ≤ 3 → Further b a i (decode a) (placeIn (b .lengths) a (decode a))
-      next i k = further-in b a i (decode a) k (omega arith)
+      next : (i : ℕ) → i ≤ 3 → Further b a i (load8In b (a + i) (decode a)) (decode a) (placeIn (b .lengths) a (decode a))
+      next i k = further-in b a i (decode a) (omega arith)
 
       there : (i : ℕ) → i ≤ 3 → further i a ≡ a + i
       there i k = omega (arith, (next i k) .near)
