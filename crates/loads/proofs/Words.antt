@@ -1,12 +1,13 @@
--- A word of one memory: the place that it is read at, by the part that the memory is, and its number by the part that was lent.
--- Assumes nothing.
+-- A word of one memory: the place that it is read at, by the part that the memory is; its number, by the part that was lent; and the
+-- load that its low bytes are. Assumes nothing.
 use mathlib.Core.Path.{_≡_, refl, _∙_, ap, sym}
 use mathlib.Core.Bool.{Bool, true, _&&_}
 use mathlib.Core.List.{List}
-use Prim.Native.Nat.{ℕ, zero, suc, _+_, _%_, _^_, _≤_, _<_, min}
+use Prim.Native.Nat.{ℕ, zero, suc, _+_, _-_, _%_, _^_, _≤_, _<_, min}
 use native.Mathlib.Nat.{add-assoc}
 use native.Mathlib.Omega.{arith}
 use lib.ListN.{take, drop}
+use lib.Bits.{bitAnd, and-mask}
 use lib.Dec.{leb}
 use lib.Seq.{getD-take, getD-drop}
 use borrow.Author.Tests.{leb-true}
@@ -20,6 +21,7 @@ use Rattle.model.specs.Laws.Window.{InRom}
 use Rattle.model.specs.Laws.Spans as spans
 use Rattle.model.specs.declared.Region.{Region}
 use Rattle.model.specs.declared.AccessSize.{AccessSize}
+use Rattle.model.specs.declared.AccessSize.the-variants.{Byte, Half, Word}
 use Rattle.parts.specs.Part.{partOf, Stands}
 use Rattle.parts.specs.declared.Part.{Part}
 use Rattle.loads.specs.Place.{Lies}
@@ -36,6 +38,12 @@ pub number-part : (n : ℕ) (xs : List ℕ) (a k i : ℕ) → i + n ≤ k → nu
 number-part zero xs a k i h = refl
 number-part (suc n) xs a k i h =
     rw (getD-take k (drop a xs) i 0 (omega arith), getD-drop, number-part n xs a k (i + 1) (omega arith), add-assoc)
+
+-- the low bytes of a word by their mask
+pub masked : (z : AccessSize) (w : ℕ) → bitAnd w (256 ^ sizeBytes z - 1) ≡ w % 256 ^ sizeBytes z
+masked Byte w = and-mask w 8
+masked Half w = and-mask w 16
+masked Word w = and-mask w 32
 
 -- the two tests of the image, as the code makes them of n bytes
 pub record Imaged (t : Bool) (i n : ℕ) : Type 0 where

@@ -21,7 +21,7 @@ use region::mirror::rom_offset;
 use region::mirror::sram_window_offset;
 use region::mirror::vram_offset;
 ghost use mathlib.Core.Path.{_≡_};
-ghost use Prim.Native.Nat.{_+_, _%_, _^_, _≤_, _<_, min};
+ghost use Prim.Native.Nat.{_+_, _-_, _%_, _^_, _≤_, _<_, min};
 ghost use lib.ListN.{length};
 ghost use Rattle.model.specs.Base.{number};
 ghost use Rattle.model.specs.Mirror.{sramOffset};
@@ -247,15 +247,21 @@ fn word_in(store: &[u8], place: Place) -> u32
     le::read32(&store[base..end], index)
 }
 
-// As many low bytes of a word as the size has.
+// The mask of as many low bytes as the size has. It is looked up, where a remainder for each size would be a branch.
+fn low_mask(size: AccessSize) -> u32
+    ensures { λ r. ⌜ r ≡ 256 ^ sizeBytes size - 1 ⌝ }
+{
+    match size {
+        AccessSize::Byte => 0xFF,
+        AccessSize::Half => 0xFFFF,
+        AccessSize::Word => 0xFFFF_FFFF,
+    }
+}
+
 fn low_bytes(size: AccessSize, word: u32) -> u32
     ensures { λ r. ⌜ r ≡ word % 256 ^ sizeBytes size ⌝ }
 {
-    match size {
-        AccessSize::Byte => word % 0x100,
-        AccessSize::Half => word % 0x1_0000,
-        AccessSize::Word => word,
-    }
+    word & low_mask(size)
 }
 
 // A load of any size. Where the four bytes from the address on stand in one memory, it is part of the word there, which saves a

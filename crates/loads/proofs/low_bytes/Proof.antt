@@ -1,28 +1,16 @@
--- `low_bytes` meets its contract: each arm is the definition at its size. Assumes nothing.
-use mathlib.Core.Path.{sym}
-use native.Mathlib.Nat.{mod-eq-of-lt}
-use native.Mathlib.Omega.{arith}
+-- `low_bytes` meets its contract: the mask keeps the low bytes. Assumes nothing.
+use Rattle.loads.proofs.Words.{masked}
 use borrow.Author.Needs.{needs}
 use Rattle.loads.proofs.low_bytes.Statement.{statement}
 use Rattle.loads.proofs.low_bytes.Tie as tie
 
-enum-told : tie.Need-enum-told
-enum-told c = search needs
-
-enum-told-2 : tie.Need-enum-told-2
-enum-told-2 c = search needs
-
-enum-told-3 : tie.Need-enum-told-3
-enum-told-3 c = search needs
+low-mask-requires : tie.Need-low-mask-requires
+low-mask-requires c κs = search needs
 
 returns : tie.Need-returns
-returns c = simp (c .enum-told .given .1)
-
-returns-2 : tie.Need-returns-2
-returns-2 c = simp (c .enum-told2 .given .1)
-
-returns-3 : tie.Need-returns-3
-returns-3 c = simp (c .enum-told3 .given .1) (sym (mod-eq-of-lt (omega arith)))
+returns c =
+    let a = c .before .args in
+    simp (c .low-mask .ensures, masked (a .size) (a .word))
 
 pub low-bytes-spec : {M : Type 1} → statement M
-low-bytes-spec = tie.close (tie.spec enum-told enum-told-2 enum-told-3 returns returns-2 returns-3)
+low-bytes-spec = tie.close (tie.spec low-mask-requires returns)
