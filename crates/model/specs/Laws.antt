@@ -16,6 +16,7 @@ pub mod Commits
 pub mod RomLoad
 pub mod Run
 pub mod Codec
+pub mod Spans
 pub mod Timing
 pub mod Refusal
 pub mod Limits

@@ -5,6 +5,7 @@ use model::Region;
 use model::RegionSize;
 use model::RegionWidth;
 ghost use mathlib.Core.Path.{_≡_};
+ghost use Rattle.model.specs.Load.{isSram};
 ghost use Rattle.model.specs.Region as map;
 
 pub mod mirror;
@@ -90,6 +91,27 @@ pub fn is_game_pak_rom(region: Region) -> bool
         Region::GamePakRomWs1 => true,
         Region::GamePakRomWs2 => true,
         Region::GamePakSram => false,
+        Region::UnusedHigh => false,
+    }
+}
+
+// The bus of 8 bits.
+pub fn is_sram(region: Region) -> bool
+    ensures { λ r. ⌜ r ≡ isSram region ⌝ }
+{
+    match region {
+        Region::Bios => false,
+        Region::UnusedLow => false,
+        Region::Ewram => false,
+        Region::Iwram => false,
+        Region::Io => false,
+        Region::Palette => false,
+        Region::Vram => false,
+        Region::Oam => false,
+        Region::GamePakRomWs0 => false,
+        Region::GamePakRomWs1 => false,
+        Region::GamePakRomWs2 => false,
+        Region::GamePakSram => true,
         Region::UnusedHigh => false,
     }
 }

@@ -1,6 +1,5 @@
 // One step of a run: what a record does to the board and the store, up to its idle cycles, which the run's loop ticks. Each step
 // stands for the Rust calls that document 01's table names.
-use memory::saturating_add;
 use model::AccessSize;
 use model::Clock;
 use model::Contents;
@@ -12,6 +11,7 @@ use model::Step;
 use model::TimingInput;
 use model::Windowed;
 use prefetch::Half;
+use stores::saturating_add;
 use waits::waitcnt::WaitCnt;
 ghost use mathlib.Core.Path.{_≡_};
 ghost use mathlib.Core.List.{[]};
@@ -77,7 +77,7 @@ fn read_step(
 {
     let pc = contents.cpu_pc;
     let latch = contents.last_bios_opcode;
-    let value = memory::read(size, addr, pc, latch, bios, rom, store, lengths);
+    let value = loads::read(size, addr, pc, latch, bios, rom, store, lengths);
     let cycles = data_price(clock.waitcnt, waits, size, addr);
     Stepped {
         clock,
@@ -141,7 +141,7 @@ fn write_step(
     ensures { λ r. ⌜ r ≡ def.steppedOf (def.mediaFrom [] [] lengths) (def.stateFrom clock [] contents (now (store .entry))) (step.Write size addr value) ⌝ }
     ensures { λ r. ⌜ now (store .exit) ≡ machine.storeAfter (def.mediaFrom [] [] lengths) (def.stateFrom clock [] contents (now (store .entry))) (step.Write size addr value) ⌝ }
 {
-    let n = memory::write(size, addr, value, store, lengths);
+    let n = stores::write(size, addr, value, store, lengths);
     let region = region::decode(addr);
     let counted = count_stores(contents, region, n);
     let cycles = data_price(clock.waitcnt, waits, size, addr);

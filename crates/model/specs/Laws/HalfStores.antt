@@ -164,6 +164,10 @@ half-low l a v = low-in a v (target l a)
 
 -- ---- a word store by its halfwords
 
+-- the test of the bus of 8 bits, as the code makes it: by a region and its answer
+pub sram-test : (a : ℕ) {r : Region} {t u : Bool} → r ≡ decode a → t ≡ isSram r → t ≡ u → isSram (decode a) ≡ u
+sram-test a p h e = ap (λ (x : Region). isSram x) (sym p) ∙ sym h ∙ e
+
 -- one region has the bus of 8 bits
 pub sram-only : (r : Region) → isSram r ≡ true → r ≡ GamePakSram
 sram-only Bios h = absurd (false≢true h)

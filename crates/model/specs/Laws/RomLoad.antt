@@ -35,14 +35,17 @@ rom-image b a k =
     λ e₃. choose (Image b a) (ltb (page a) 0x0E) (λ e. record { byte = refl; plain = refl })
     λ e. absurd (omega (arith, tests))
 
-rom-byte : (b : Bus) (a : ℕ) → InRom a → load8 b a ≡ byteAt (b .rom) (romOffset a)
+pub rom-byte : (b : Bus) (a : ℕ) → InRom a → load8 b a ≡ byteAt (b .rom) (romOffset a)
 unfolding load8
 rom-byte b a k = (rom-image b a k) .byte
+
+pub rom-plain : (b : Bus) (a : ℕ) → InRom a → isSram (decode a) ≡ false
+rom-plain b a k = (rom-image b a k) .plain
 
 pub rom-load : (b : Bus) (a : ℕ) → InRom a → a % 2 ≡ 0 → load16 b a ≡ romHalfword (b .rom) a
 unfolding load16 romHalfword
 rom-load b a k e =
-    if-false _ _ _ ((rom-image b a k) .plain)
+    if-false _ _ _ (rom-plain b a k)
     ∙ ap₂ (λ (x y : ℕ). x + 0x100 * y) (rom-byte b a k) (rom-byte b (further 1 a) (omega arith))
 
 -- a beat in flight, also one that starts now, fetches inside the windows
