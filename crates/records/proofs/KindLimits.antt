@@ -1,13 +1,13 @@
 -- The limits of a kind's fields: what `field_fault` tests by a row of its table is what the definition says. Assumes nothing.
 use mathlib.Core.Path.{_≡_, refl, sym, ap, _∙_}
-use mathlib.Core.Bool.{Bool, true, false, not, _&&_, _||_, and-true, and-assoc}
+use mathlib.Core.Bool.{Bool, true, false, not, _&&_, _||_, and-assoc, or-true}
 use mathlib.Core.List.{List, [], _∷_}
 use Prim.Native.Nat.{ℕ, zero, suc, _+_, _*_, _^_, _<_}
 use native.Mathlib.Nat.{zero-add, add-zero}
 use native.Mathlib.Omega.{arith}
 use lib.Dec.{eqb, leb, leb·suc-zero, eqb·suc-zero}
 use lib.ListN.{getD}
-use borrow.Author.Tests.{eqb-true, le-leb, lt-leb}
+use borrow.Author.Tests.{le-leb, lt-leb}
 use Rattle.model.specs.Base.{if_then_else_}
 use Rattle.model.specs.Sheet.{usesFlag, usesAddress, usesValue, fieldFault}
 use Rattle.model.specs.Laws.Choice.{choose, tests}
@@ -34,7 +34,6 @@ row-of kind =
       past 9 (2 ∷ 3 ∷ 4 ∷ 7 ∷ 9 ∷ []) refl kind h,
       past 9 (1 ∷ 2 ∷ 5 ∷ 6 ∷ 7 ∷ 8 ∷ []) refl kind h,
       past 9 (7 ∷ []) refl kind h,
-      past 9 (3 ∷ []) refl kind h,
     ))
 
 no-more : (n : ℕ) → leb n 0 ≡ eqb n 0
@@ -56,14 +55,12 @@ address-most true n h = le-leb n 0xFFFF_FFFF (omega arith)
 address-most false n h = no-more n
 
 -- the value: the same, and 16 bits where it is a half
-value-most : (u half : Bool) (n : ℕ) → (half ≡ true → u ≡ true) → n < 2 ^ 32
-    → leb n (if half then 0xFFFF else if u then 0xFFFF_FFFF else 0) ≡ ((u || eqb n 0) && (not half || leb n 0xFFFF))
-value-most u true n s h = rw (s refl)
-value-most u false n s h = address-most u n h ∙ sym (and-true (u || eqb n 0))
-
--- WAITCNT, whose value is a half, uses it
-half-used : (k : ℕ) → eqb k 3 ≡ true → usesValue k ≡ true
-half-used k e = rw (eqb-true k 3 e)
+value-most : (u half : Bool) (n : ℕ) → n < 2 ^ 32
+    → leb n (if u then (if half then 0xFFFF else 0xFFFF_FFFF) else 0) ≡ ((u || eqb n 0) && (not half || leb n 0xFFFF))
+value-most true true n h = refl
+value-most true false n h = address-most true n h
+value-most false half zero h = sym (or-true (not half))
+value-most false half (suc n) h = rw (leb·suc-zero n, eqb·suc-zero n)
 
 -- `field_fault` tests the fields by its kind's row
 pub field-test : (r : SheetRecord) → r .address < 2 ^ 32 → r .value < 2 ^ 32 → (row : List ℕ)
@@ -80,6 +77,6 @@ field-test r ha hv row e =
       e ∙ row-of k,
       flag-most (usesFlag k) (r .flag) (r .«zero_byte»),
       address-most (usesAddress k) (r .address) ha,
-      value-most (usesValue k) (eqb k 3) (r .value) (half-used k) hv,
+      value-most (usesValue k) (eqb k 3) (r .value) hv,
     )
     (simp and-assoc)

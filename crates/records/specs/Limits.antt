@@ -10,7 +10,7 @@ abbrev pub limitsOf : ℕ → List ℕ
 limitsOf kind =
     (if usesFlag kind then 1 else 0)
     ∷ (if usesAddress kind then 0xFFFF_FFFF else 0)
-    ∷ (if eqb kind 3 then 0xFFFF else if usesValue kind then 0xFFFF_FFFF else 0)
+    ∷ (if usesValue kind then (if eqb kind 3 then 0xFFFF else 0xFFFF_FFFF) else 0)
     ∷ []
 
 -- the rows of n kinds from kind k on
