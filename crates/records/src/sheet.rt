@@ -8,11 +8,10 @@ use model::IsaState;
 use model::SheetRecord;
 use model::Step;
 ghost use mathlib.Core.Path.{_≡_};
-ghost use Prim.Native.Nat.{_+_, _*_, _/_, _%_, _^_, _≤_};
+ghost use Prim.Native.Nat.{_+_, _*_, _≤_};
 ghost use lib.ListN.{length};
-ghost use lib.Dec.{leb};
-ghost use Rattle.model.specs.Base.{if_then_else_};
 ghost use Rattle.model.specs.Sheet as def;
+ghost use Rattle.records.specs.Limits.{kindLimits};
 
 pub const MAX_RECORDS: usize = 4096;
 
@@ -107,7 +106,7 @@ const SIZES: u64 = 0b00001_00001_10100_00001_00001_00001_00001_10110_10110_00000
 
 // A fault that the first pass looks for: the kind, or its size. The kind is not branched on, here and in the second pass:
 // kinds follow each other in no order, so that a branch would often be guessed wrong.
-pub fn kind_fault(r: SheetRecord) -> bool
+fn kind_fault(r: SheetRecord) -> bool
     ensures { λ x. ⌜ x ≡ def.kindFault r ⌝ }
 {
     if (r.kind > 9) | (r.size > 4) {
@@ -116,38 +115,36 @@ pub fn kind_fault(r: SheetRecord) -> bool
     (SIZES >> (5 * r.kind as u32 + r.size as u32)) % 2 == 0
 }
 
-// The kinds that use the flag, 7. Bit k for kind k, here and below.
-const FLAG_KINDS: u32 = 0b00_1000_0000;
+// The limit of a field that may hold any number.
+const ANY: u32 = 0xFFFF_FFFF;
 
-// The kinds that use the address: 1, 2, 5, 6, 7, 8.
-const ADDRESS_KINDS: u32 = 0b01_1110_0110;
-
-// The kinds whose value has 32 bits: 2, 4, 7, 9.
-const WORD_VALUE_KINDS: u32 = 0b10_1001_0100;
-
-// The kind whose value has 16 bits, 3.
-const HALF_VALUE_KINDS: u32 = 0b00_0000_1000;
-
-// 1 if a kind is in a set of kinds, else 0. A number over 9 is taken for 0, which is in no set.
-fn uses(kinds: u32, kind: u8) -> u32
-    requires { ⌜ kinds % 2 ≡ 0 ⌝ }
-    ensures { λ r. ⌜ r ≡ (if leb kind 9 then kinds / 2 ^ kind % 2 else 0) ⌝ }
-    ensures { λ r. ⌜ r ≤ 1 ⌝ }
+// The greatest flag, address and value of each kind: 0 where a kind doesn't use the field. There is no kind 0.
+fn limits() -> [[u32; 3]; 10]
+    ensures { λ r. ⌜ r ≡ kindLimits ⌝ }
 {
-    let k = if kind <= 9 { kind as u32 } else { 0 };
-    (kinds >> k) % 2
+    [
+        [0, 0, 0], // 0, no kind
+        [0, ANY, 0], // 1 READ
+        [0, ANY, ANY], // 2 WRITE
+        [0, 0, 0xFFFF], // 3 WAITCNT
+        [0, 0, ANY], // 4 IDLE
+        [0, ANY, 0], // 5 FETCH
+        [0, ANY, 0], // 6 RESTART
+        [1, ANY, ANY], // 7 INSTRUCTION
+        [0, ANY, 0], // 8 PC
+        [0, 0, ANY], // 9 LATCH
+    ]
 }
 
-// A fault that the second pass looks for: the other fields. Each is at most the greatest value that its kind allows; the flag
-// and the zero byte behind it are one number.
-pub fn field_fault(r: SheetRecord) -> bool
+// A fault that the second pass looks for: the other fields. Each is at most its limit; the flag and the zero byte behind it
+// are one number. A kind over 9 uses nothing, like kind 0. The caller makes the table, once for all records.
+fn field_fault(r: SheetRecord, limits: &[[u32; 3]; 10]) -> bool
+    requires { ⌜ now limits ≡ kindLimits ⌝ }
     ensures { λ x. ⌜ x ≡ def.fieldFault r ⌝ }
 {
-    let flag = uses(FLAG_KINDS, r.kind);
-    let address = 0xFFFF_FFFF * uses(ADDRESS_KINDS, r.kind);
-    let value = 0xFFFF_FFFF * uses(WORD_VALUE_KINDS, r.kind)
-        + 0xFFFF * uses(HALF_VALUE_KINDS, r.kind);
-    !((half(r.flag, r.zero_byte) as u32 <= flag) & (r.address <= address) & (r.value <= value))
+    let k = if r.kind <= 9 { r.kind as usize } else { 0 };
+    let most = limits[k];
+    !((half(r.flag, r.zero_byte) as u32 <= most[0]) & (r.address <= most[1]) & (r.value <= most[2]))
 }
 
 // The first record of n with a fault of kind or size; n where there is none.
@@ -170,9 +167,10 @@ fn first_field_fault(sheet: &[u8], n: usize) -> usize
     requires { ⌜ 8 + 12 * n ≤ length (now sheet) ⌝ }
     ensures { λ r. ⌜ r ≡ def.firstOf def.fieldFault (def.recordsFrom (now (sheet .entry)) 0 n) ⌝ }
 {
+    let limits = limits();
     let mut k: usize = 0;
     while k < n {
-        if field_fault(record_at(sheet, k)) {
+        if field_fault(record_at(sheet, k), &limits) {
             return k;
         }
         k += 1;

@@ -1,40 +1,23 @@
--- `records::sheet::field_fault` meets its contract: the numbers that it names are the sets of kinds of the definition. Assumes nothing.
-use mathlib.Core.Path.{_≡_, _∙_}
+-- `records::sheet::field_fault` meets its contract: the row that it reads has the limits of the record's kind. Assumes nothing.
+use mathlib.Core.Path.{_≡_, refl}
+use mathlib.Core.Logic.{⊎-elim}
 use native.Mathlib.Omega.{arith}
+use lib.Dec.{leb}
+use borrow.Author.Tests.{le-leb, lt-leb}
 use borrow.Author.Needs.{needs}
-use Rattle.model.specs.Base.{bit}
-use Rattle.model.specs.Sheet.{usesValue}
-use Rattle.records.proofs.KindBits.{usesWord, usesHalf, word-bit, half-bit, one-width, field-test}
+use Rattle.model.specs.Base.{if_then_else_}
+use Rattle.records.proofs.KindLimits.{field-test}
 use Rattle.records.proofs.sheet.field_fault.Statement.{statement}
 use Rattle.records.proofs.sheet.field_fault.Tie as tie
 
-uses-requires : tie.Need-uses-requires
-uses-requires c κs = search needs
+cast-k : tie.Need-cast-k
+cast-k c = search needs
 
-uses-requires-2 : tie.Need-uses-requires-2
-uses-requires-2 c κs = search needs
+mul-most : tie.Need-mul-most
+mul-most c = ⊎-elim (λ w. omega arith) (λ w. omega arith) (c .before .if1 .came)
 
-mul-address : tie.Need-mul-address
-mul-address c = search needs
-
-uses-requires-3 : tie.Need-uses-requires-3
-uses-requires-3 c κs = search needs
-
-mul-value : tie.Need-mul-value
-mul-value c = search needs
-
-uses-requires-4 : tie.Need-uses-requires-4
-uses-requires-4 c κs = search needs
-
-mul-value-2 : tie.Need-mul-value-2
-mul-value-2 c = search needs
-
-add-value : tie.Need-add-value
-add-value c =
-    let k = c .before .before .before .before .args .r .kind in
-    let w : c .before .uses3 .result ≡ bit (usesWord k) = c .before .uses3 .ensures .0 ∙ rw (word-bit k) in
-    let h : c .uses4 .result ≡ bit (usesHalf k) = c .uses4 .ensures .0 ∙ rw (half-bit k) in
-    omega (arith, one-width (usesValue k) (usesHalf k))
+element-copy-out-most : tie.Need-element-copy-out-most
+element-copy-out-most c = ⊎-elim (λ w. omega arith) (λ w. omega arith) (c .before .if1 .came)
 
 half-requires : tie.Need-half-requires
 half-requires c κs = search needs
@@ -42,30 +25,35 @@ half-requires c κs = search needs
 cast-result : tie.Need-cast-result
 cast-result c = search needs
 
+array-read-result : tie.Need-array-read-result
+array-read-result c = search needs
+
+array-read-result-2 : tie.Need-array-read-result-2
+array-read-result-2 c = search needs
+
+array-read-result-3 : tie.Need-array-read-result-3
+array-read-result-3 c = search needs
+
 returns : tie.Need-returns
 returns c =
-    let s = c .before .before .before .before .before .before .before in
-    rw (
-      c .before .before .before .before .before .before .uses .ensures .0,
-      c .before .before .before .before .before .uses2 .ensures .0,
-      c .before .before .before .before .uses3 .ensures .0,
-      c .before .before .before .uses4 .ensures .0,
-      c .before .before .half .ensures,
-      field-test (s .args .r) (omega arith) (omega arith),
-    )
+    let d = c .before .before .before .before .before in
+    let s = d .before .before in
+    let kind = s .args .r .kind in
+    let place : d .if1 .k ≡ (if leb kind 9 then kind else 0) =
+    ⊎-elim (λ w. simp (le-leb _ _ (w .0 .taken), w .2)) (λ w. simp (lt-leb _ _ (w .0 .left), w .1)) (d .if1 .came)
+    in
+    rw (c .before .before .half .ensures, s .pre, place) (field-test (s .args .r) (omega arith) (omega arith) _ refl)
 
 pub field-fault-spec : {M : Type 1} → statement M
 field-fault-spec =
     tie.close
     (tie.spec
-    uses-requires
-    uses-requires-2
-    mul-address
-    uses-requires-3
-    mul-value
-    uses-requires-4
-    mul-value-2
-    add-value
+    cast-k
+    mul-most
+    element-copy-out-most
     half-requires
     cast-result
+    array-read-result
+    array-read-result-2
+    array-read-result-3
     returns)
