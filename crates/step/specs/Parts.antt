@@ -1,6 +1,6 @@
 -- The definitions' media and state, as made from what is lent; a step up to its idle cycles; and the laws by which its parts make it.
 use mathlib.Core.Path.{_≡_, refl, ap, _∙_}
-use mathlib.Core.Bool.{Bool, true, false, _&&_}
+use mathlib.Core.Bool.{Bool, true, false}
 use mathlib.Core.List.{List, []}
 use Prim.Native.Nat.{ℕ, _<_}
 use native.Mathlib.Omega.{arith}
@@ -15,9 +15,11 @@ use Rattle.model.specs.Waitcnt.{Waits, romWaits}
 use Rattle.model.specs.Wait.{window}
 use Rattle.model.specs.Timing.{priceInsn}
 use Rattle.model.specs.Prefetch.{restart, occupied, hit, taken, fetched}
-use Rattle.model.specs.Laws.Choice.{choose, either, if-true, if-false}
+use Rattle.model.specs.Laws.Choice.{choose, either}
+use Rattle.model.specs.Laws.Rules.{missed-again}
+use Rattle.model.specs.Laws.Switch.{restart-fetched}
 use Rattle.prefetch.specs.Found.{found}
-use Rattle.model.specs.Step.{Media, State, withPrefetch, timingInput, priced, romFetched, fetchedIn, hitsIn, codeFetched, codeHits, halfAt, cycles, hits, value, countedIn, countedAt, countStore, contentsAfter}
+use Rattle.model.specs.Step.{Media, State, withPrefetch, timingInput, priced, romFetched, romHits, fetchedIn, hitsIn, codeFetched, codeHits, halfAt, cycles, hits, value, countedIn, countedAt, countStore, contentsAfter}
 use Rattle.step.specs.Idle.{idleOf, clockBefore}
 use Rattle.model.specs.declared.Region.{Region}
 use Rattle.model.specs.declared.Region.the-variants.{Bios, UnusedLow, Ewram, Iwram, Io, Palette, Vram, Oam, GamePakRomWs0, GamePakRomWs1, GamePakRomWs2, GamePakSram, UnusedHigh}
@@ -31,7 +33,7 @@ use Rattle.model.specs.declared.Lengths.{Lengths}
 use Rattle.model.specs.declared.Step.{Step}
 use Rattle.model.specs.declared.Step.the-variants.{Write, Fetch, Instruction}
 use Rattle.model.specs.declared.IsaState.{IsaState}
-use Rattle.model.specs.declared.IsaState.the-variants.{Arm}
+use Rattle.model.specs.declared.IsaState.the-variants.{Arm, Thumb}
 use Rattle.model.specs.declared.InsnCycles.{InsnCycles}
 use Rattle.step.specs.declared.CodeFetch.{CodeFetch}
 use Rattle.prefetch.specs.declared.Half.{Half}
@@ -115,15 +117,29 @@ unfolding fetched taken
 fetched-head p a h =
     either (λ (q : PrefetchBuffer). q .head < 8) (hit p a) (omega arith) (either (λ (q : PrefetchBuffer). q .head < 8) (occupied p) (omega arith) h)
 
--- ---- an opcode fetched through the buffer
+-- ---- an opcode fetched through the buffer: on any miss it is only restarted, since a restart drains
 
-pub arm-hits : (t : Waits) (p : PrefetchBuffer) (a : ℕ) → hit p a && hit (fetched p a) (further 2 a) ≡ true
-    → romFetched t p a Arm ≡ fetched (fetched p a) (further 2 a)
-arm-hits t p a e = if-true (hit p a && hit (fetched p a) (further 2 a)) (fetched (fetched p a) (further 2 a)) (restart t (fetched (fetched p a) (further 2 a)) (further 4 a)) e
+abbrev pub fetchOf : Waits → PrefetchBuffer → ℕ → IsaState → CodeFetch
+fetchOf t p a isa = record { prefetch = romFetched t p a isa; hits = romHits p a isa }
 
-pub arm-misses : (t : Waits) (p : PrefetchBuffer) (a : ℕ) → hit p a && hit (fetched p a) (further 2 a) ≡ false
-    → romFetched t p a Arm ≡ restart t (fetched (fetched p a) (further 2 a)) (further 4 a)
-arm-misses t p a e = if-false (hit p a && hit (fetched p a) (further 2 a)) (fetched (fetched p a) (further 2 a)) (restart t (fetched (fetched p a) (further 2 a)) (further 4 a)) e
+module _ (t : Waits) (p : PrefetchBuffer) (a : ℕ) where
+  pub thumb-hits : hit p a ≡ true → record { prefetch = fetched p a; hits = 1 } ≡ fetchOf t p a Thumb
+  thumb-hits e = rw e refl
+
+  pub thumb-misses : hit p a ≡ false → record { prefetch = restart t p (further 2 a); hits = 0 } ≡ fetchOf t p a Thumb
+  thumb-misses e = rw (e, restart-fetched t p a (further 2 a)) refl
+
+  pub arm-hits : hit p a ≡ true → hit (fetched p a) (further 2 a) ≡ true
+      → record { prefetch = fetched (fetched p a) (further 2 a); hits = 2 } ≡ fetchOf t p a Arm
+  arm-hits e f = rw (e, f) refl
+
+  pub arm-half-misses : hit p a ≡ true → hit (fetched p a) (further 2 a) ≡ false
+      → record { prefetch = restart t (fetched p a) (further 4 a); hits = 1 } ≡ fetchOf t p a Arm
+  arm-half-misses e f = rw (e, f, restart-fetched t (fetched p a) (further 2 a) (further 4 a)) refl
+
+  pub arm-misses : hit p a ≡ false → record { prefetch = restart t p (further 4 a); hits = 0 } ≡ fetchOf t p a Arm
+  arm-misses e =
+      rw (e, missed-again p a (further 2 a) e, restart-fetched t (fetched p a) (further 2 a) (further 4 a), restart-fetched t p a (further 4 a)) refl
 
 -- ---- FETCH: what was found says whether the buffer hit
 

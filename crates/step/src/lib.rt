@@ -17,7 +17,6 @@ ghost use mathlib.Core.Path.{_≡_};
 ghost use mathlib.Core.List.{[]};
 ghost use Prim.Native.Nat.{_<_};
 ghost use lib.ListN.{length};
-ghost use Rattle.model.specs.Base.{bit};
 ghost use Rattle.model.specs.Waitcnt.{romWaits};
 ghost use Rattle.model.specs.Wait.{window as windowOf};
 ghost use Rattle.model.specs.Load.{lengthsSum};
@@ -211,45 +210,37 @@ struct CodeFetch {
     hits: u8,
 }
 
-fn one_if(b: bool) -> u8
-    ensures { λ r. ⌜ r ≡ bit b ⌝ }
-{
-    if b { 1 } else { 0 }
-}
-
+// A restart drains, so that a half that misses need not be fetched first.
 fn fetch_thumb(p: PrefetchBuffer, addr: u32, waits: [[u8; 2]; 3]) -> CodeFetch
     requires { ⌜ p .head < 8 ⌝ }
-    ensures { λ r. ⌜ r ≡ record { prefetch = machine.romFetched waits p addr Thumb; hits = machine.romHits p addr Thumb } ⌝ }
+    ensures { λ r. ⌜ r ≡ def.fetchOf waits p addr Thumb ⌝ }
 {
-    let q = prefetch::after_fetch(p, addr);
     if prefetch::hits(p, addr) {
-        return CodeFetch {
-            prefetch: q,
-            hits: 1,
-        };
+        let prefetch = prefetch::after_fetch(p, addr);
+        return CodeFetch { prefetch, hits: 1 };
     }
-    let prefetch = prefetch::restart(q, std::num::wrapping_add_u32(addr, 2), waits);
+    let prefetch = prefetch::restart(p, std::num::wrapping_add_u32(addr, 2), waits);
     CodeFetch { prefetch, hits: 0 }
 }
 
+// Where the first half misses, so does the second.
 fn fetch_arm(p: PrefetchBuffer, addr: u32, waits: [[u8; 2]; 3]) -> CodeFetch
     requires { ⌜ p .head < 8 ⌝ }
-    ensures { λ r. ⌜ r ≡ record { prefetch = machine.romFetched waits p addr Arm; hits = machine.romHits p addr Arm } ⌝ }
+    ensures { λ r. ⌜ r ≡ def.fetchOf waits p addr Arm ⌝ }
 {
     let next = std::num::wrapping_add_u32(addr, 2);
-    let first = prefetch::hits(p, addr);
-    let q = prefetch::after_fetch(p, addr);
-    let second = prefetch::hits(q, next);
-    let both = prefetch::after_fetch(q, next);
-    let hits = one_if(first) + one_if(second);
-    if first & second {
-        return CodeFetch {
-            prefetch: both,
-            hits,
-        };
+    let after = std::num::wrapping_add_u32(addr, 4);
+    if !prefetch::hits(p, addr) {
+        let prefetch = prefetch::restart(p, after, waits);
+        return CodeFetch { prefetch, hits: 0 };
     }
-    let prefetch = prefetch::restart(both, std::num::wrapping_add_u32(addr, 4), waits);
-    CodeFetch { prefetch, hits }
+    let q = prefetch::after_fetch(p, addr);
+    if prefetch::hits(q, next) {
+        let prefetch = prefetch::after_fetch(q, next);
+        return CodeFetch { prefetch, hits: 2 };
+    }
+    let prefetch = prefetch::restart(q, after, waits);
+    CodeFetch { prefetch, hits: 1 }
 }
 
 // Code in a window goes through the buffer; code elsewhere leaves it alone.

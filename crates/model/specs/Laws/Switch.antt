@@ -1,12 +1,12 @@
 -- Only a write to WAITCNT moves the prefetch switch: every other operation of the buffer keeps it.
-use mathlib.Core.Path.{_≡_, refl, _∙_}
+use mathlib.Core.Path.{_≡_, refl, ap₂, _∙_}
 use mathlib.Core.Bool.{Bool, true, false, not, _&&_}
 use Prim.Native.Nat.{ℕ, zero, suc, _+_}
 use lib.Dec.{ltb, leb}
-use Rattle.model.specs.Base.{further}
+use Rattle.model.specs.Base.{if_then_else_, further}
 use Rattle.model.specs.Waitcnt.{Waits}
 use Rattle.model.specs.Wait.{window, inWindow}
-use Rattle.model.specs.Prefetch.{capacity, setEnabled, restartIn, restart, beatIn, startBeat, arrived, ended, advance, ready, tick1, ticks, occupied, hit, taken, fetched}
+use Rattle.model.specs.Prefetch.{capacity, emptied, setEnabled, restartIn, restart, beatIn, startBeat, arrived, ended, advance, ready, tick1, ticks, occupied, hit, taken, fetched}
 use Rattle.model.specs.Step.{waitsOf, romFetched, fetchedIn, codeFetched}
 use Rattle.model.specs.Laws.Choice.{choose, either}
 use Rattle.model.specs.declared.PrefetchBuffer.{PrefetchBuffer}
@@ -33,6 +33,15 @@ module _ (t : Waits) where
   pub restart-switch : (p : PrefetchBuffer) (a : ℕ) → (restart t p a) .enabled ≡ p .enabled
   unfolding restart
   restart-switch p a = either (Keeps p) (p .enabled) (restartIn-switch p a (window a)) refl
+
+  -- a restart drains: what it leaves depends on the switch alone
+  restartIn-anew : (p q : PrefetchBuffer) (a : ℕ) (v : Windowed) → p .enabled ≡ q .enabled → restartIn t p a v ≡ restartIn t q a v
+  restartIn-anew p q a (In win) e = rw e refl
+  restartIn-anew p q a Outside e = rw e refl
+
+  restart-anew : (p q : PrefetchBuffer) (a : ℕ) → p .enabled ≡ q .enabled → restart t p a ≡ restart t q a
+  unfolding restart
+  restart-anew p q a e = ap₂ (λ (on : Bool) (r : PrefetchBuffer). if on then r else emptied on) e (restartIn-anew p q a (window a) e)
 
   beatIn-switch : (p : PrefetchBuffer) (v : Windowed) → Keeps p (beatIn t p v)
   beatIn-switch p (In win) = refl
@@ -66,6 +75,10 @@ module _ (t : Waits) where
 pub fetched-switch : (p : PrefetchBuffer) (a : ℕ) → (fetched p a) .enabled ≡ p .enabled
 unfolding fetched taken
 fetched-switch p a = either (Keeps p) (hit p a) refl (either (Keeps p) (occupied p) refl refl)
+
+-- so a fetch before it changes nothing
+pub restart-fetched : (t : Waits) (p : PrefetchBuffer) (a b : ℕ) → restart t (fetched p a) b ≡ restart t p b
+restart-fetched t p a b = restart-anew t (fetched p a) p b (fetched-switch p a)
 
 romFetched-switch : (t : Waits) (p : PrefetchBuffer) (a : ℕ) (isa : IsaState) → Keeps p (romFetched t p a isa)
 romFetched-switch t p a Thumb =
