@@ -1,4 +1,4 @@
-//! Document 01's byte layouts: sheet, record, answer, board; and when a board is sound.
+//! Document 01's byte layouts: sheet, record, answer, board; when a board is sound; and the library's C function.
 
 /// What is lent to one run. `lengths` are the seven lengths as given, in the store's order:
 /// EWRAM, IWRAM, I/O, palette, VRAM, OAM, SRAM. Nothing here need be well formed.
@@ -20,6 +20,16 @@ pub struct Report {
     pub number: u32,
     pub index: u32,
     pub total: u64,
+}
+
+// The library: include/bts.h.
+extern "C" {
+    pub fn bts_run(
+        sheet: *const u8, sheet_len: usize, board: *mut u8, board_len: usize,
+        store: *mut u8, store_len: usize, bios: *const u8, bios_len: usize,
+        rom: *const u8, rom_len: usize, answers: *mut u8, answers_len: usize,
+        ewram: usize, iwram: usize, io: usize, palette: usize, vram: usize, oam: usize, sram: usize,
+    ) -> Report;
 }
 
 /// Everything that a run gives back or may have changed.

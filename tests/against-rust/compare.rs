@@ -2,15 +2,6 @@
 
 use crate::bytes::*;
 
-extern "C" {
-    fn bts_run(
-        sheet: *const u8, sheet_len: usize, board: *mut u8, board_len: usize,
-        store: *mut u8, store_len: usize, bios: *const u8, bios_len: usize,
-        rom: *const u8, rom_len: usize, answers: *mut u8, answers_len: usize,
-        ewram: usize, iwram: usize, io: usize, palette: usize, vram: usize, oam: usize, sram: usize,
-    ) -> Report;
-}
-
 /// The memories of the store, in its order.
 pub const NAMES: [&str; 7] = ["EWRAM", "IWRAM", "I/O", "palette", "VRAM", "OAM", "SRAM"];
 

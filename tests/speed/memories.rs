@@ -6,15 +6,6 @@ use crate::bus::region::{
 use crate::bytes::*;
 use crate::sheets::Rng;
 
-extern "C" {
-    fn bts_run(
-        sheet: *const u8, sheet_len: usize, board: *mut u8, board_len: usize,
-        store: *mut u8, store_len: usize, bios: *const u8, bios_len: usize,
-        rom: *const u8, rom_len: usize, answers: *mut u8, answers_len: usize,
-        ewram: usize, iwram: usize, io: usize, palette: usize, vram: usize, oam: usize, sram: usize,
-    ) -> Report;
-}
-
 /// The sizes of the seven memories of the store, in its order.
 pub const SIZES: [usize; 7] =
     [EWRAM_SIZE, IWRAM_SIZE, IO_SIZE, PALETTE_SIZE, VRAM_SIZE, OAM_SIZE, SRAM_WINDOW_SIZE];
