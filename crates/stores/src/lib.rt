@@ -28,8 +28,8 @@ ghost use lib.ListN.{length};
 ghost use Rattle.model.specs.Base.{if_then_else_, bit};
 ghost use Rattle.model.specs.Mirror.{sramOffset};
 ghost use Rattle.model.specs.Load.{lengthsSum, sramPart};
-ghost use Rattle.model.specs.Store.{landed, put, putHalf, target, targetIn, modeOf, puts8At, puts8, puts16, puts32, puts, videoCount, counted};
-ghost use Rattle.model.specs.declared.Region.the-variants.{Vram};
+ghost use Rattle.model.specs.Store.{landed, put, putHalf, target, targetIn, modeOf, puts8At, puts8, puts16At, puts16, puts32, puts, videoCount, counted};
+ghost use Rattle.model.specs.declared.Region.the-variants.{Io, Vram};
 ghost use Rattle.model.specs.declared.AccessSize.the-variants.{Byte, Half, Word};
 ghost use Rattle.parts.specs.Part.{partOf};
 ghost use Rattle.video.specs.Video.{fillsHalfword};
@@ -94,6 +94,33 @@ fn write8_vram(addr: u32, value: u8, store: &mut [u8], lengths: Lengths) -> u32
     write8_video(target, parts::vram(lengths), offset, value, store)
 }
 
+// I/O has gaps, where a store is dropped. No store to it counts.
+fn write8_io(addr: u32, value: u8, store: &mut [u8], lengths: Lengths) -> u32
+    requires { ⌜ lengthsSum lengths ≡ length (now store) ⌝ }
+    ensures { λ r. ⌜ now (store .exit) ≡ landed (now (store .entry)) (puts8At (modeOf lengths (now (store .entry))) value (targetIn lengths addr Io)) ⌝ }
+    ensures { λ r. ⌜ r ≡ videoCount (modeOf lengths (now (store .entry))) Byte (targetIn lengths addr Io) ⌝ }
+{
+    let offset = io_offset(addr);
+    let Offset::At(index) = offset else {
+        return 0;
+    };
+    put(store, parts::io(lengths), index, value);
+    0
+}
+
+fn write16_io(addr: u32, value: u16, store: &mut [u8], lengths: Lengths) -> u32
+    requires { ⌜ lengthsSum lengths ≡ length (now store) ⌝ }
+    ensures { λ r. ⌜ now (store .exit) ≡ landed (now (store .entry)) (puts16At addr value (targetIn lengths addr Io)) ⌝ }
+    ensures { λ r. ⌜ r ≡ videoCount 0 Half (targetIn lengths addr Io) ⌝ }
+{
+    let offset = io_offset(addr);
+    let Offset::At(index) = offset else {
+        return 0;
+    };
+    put_half(store, parts::io(lengths), index, value);
+    0
+}
+
 pub fn write8(addr: u32, value: u8, store: &mut [u8], lengths: Lengths) -> u32
     requires { ⌜ lengthsSum lengths ≡ length (now store) ⌝ }
     ensures { λ r. ⌜ now (store .exit) ≡ landed (now (store .entry)) (puts8 lengths (modeOf lengths (now (store .entry))) addr value) ⌝ }
@@ -111,16 +138,7 @@ pub fn write8(addr: u32, value: u8, store: &mut [u8], lengths: Lengths) -> u32
             put(store, parts::iwram(lengths), iwram_offset(addr), value);
             0
         }
-        Region::Io => {
-            let offset = io_offset(addr);
-            match offset {
-                Offset::At(index) => {
-                    put(store, parts::io(lengths), index, value);
-                    0
-                }
-                Offset::Unbacked => 0,
-            }
-        }
+        Region::Io => write8_io(addr, value, store, lengths),
         Region::Palette => write8_video(
             VideoTarget::Palette,
             parts::palette(lengths),
@@ -160,16 +178,7 @@ pub fn write16(addr: u32, value: u16, store: &mut [u8], lengths: Lengths) -> u32
             put_half(store, parts::iwram(lengths), iwram_offset(addr), value);
             0
         }
-        Region::Io => {
-            let offset = io_offset(addr);
-            match offset {
-                Offset::At(index) => {
-                    put_half(store, parts::io(lengths), index, value);
-                    0
-                }
-                Offset::Unbacked => 0,
-            }
-        }
+        Region::Io => write16_io(addr, value, store, lengths),
         Region::Palette => {
             put_half(store, parts::palette(lengths), palette_offset(addr), value);
             1

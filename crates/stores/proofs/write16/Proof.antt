@@ -41,23 +41,11 @@ put-half-requires-2 c κs = search needs
 enum-told-5 : tie.Need-enum-told-5
 enum-told-5 c = search needs
 
-io-offset-requires : tie.Need-io-offset-requires
-io-offset-requires c κs = search needs
-
-enum-known-offset : tie.Need-enum-known-offset
-enum-known-offset c = search needs
-
-io-requires : tie.Need-io-requires
-io-requires c κs = search needs
-
-put-half-requires-3 : tie.Need-put-half-requires-3
-put-half-requires-3 c κs = search needs
+write16-io-requires : tie.Need-write16-io-requires
+write16-io-requires c κs = search needs
 
 enum-told-6 : tie.Need-enum-told-6
 enum-told-6 c = search needs
-
-enum-told-7 : tie.Need-enum-told-7
-enum-told-7 c = search needs
 
 palette-requires : tie.Need-palette-requires
 palette-requires c κs = search needs
@@ -65,11 +53,11 @@ palette-requires c κs = search needs
 palette-offset-requires : tie.Need-palette-offset-requires
 palette-offset-requires c κs = search needs
 
-put-half-requires-4 : tie.Need-put-half-requires-4
-put-half-requires-4 c κs = search needs
+put-half-requires-3 : tie.Need-put-half-requires-3
+put-half-requires-3 c κs = search needs
 
-enum-told-8 : tie.Need-enum-told-8
-enum-told-8 c = search needs
+enum-told-7 : tie.Need-enum-told-7
+enum-told-7 c = search needs
 
 vram-requires : tie.Need-vram-requires
 vram-requires c κs = search needs
@@ -77,11 +65,11 @@ vram-requires c κs = search needs
 vram-offset-requires : tie.Need-vram-offset-requires
 vram-offset-requires c κs = search needs
 
-put-half-requires-5 : tie.Need-put-half-requires-5
-put-half-requires-5 c κs = search needs
+put-half-requires-4 : tie.Need-put-half-requires-4
+put-half-requires-4 c κs = search needs
 
-enum-told-9 : tie.Need-enum-told-9
-enum-told-9 c = search needs
+enum-told-8 : tie.Need-enum-told-8
+enum-told-8 c = search needs
 
 oam-requires : tie.Need-oam-requires
 oam-requires c κs = search needs
@@ -89,8 +77,11 @@ oam-requires c κs = search needs
 oam-offset-requires : tie.Need-oam-offset-requires
 oam-offset-requires c κs = search needs
 
-put-half-requires-6 : tie.Need-put-half-requires-6
-put-half-requires-6 c κs = search needs
+put-half-requires-5 : tie.Need-put-half-requires-5
+put-half-requires-5 c κs = search needs
+
+enum-told-9 : tie.Need-enum-told-9
+enum-told-9 c = search needs
 
 enum-told-10 : tie.Need-enum-told-10
 enum-told-10 c = search needs
@@ -101,17 +92,14 @@ enum-told-11 c = search needs
 enum-told-12 : tie.Need-enum-told-12
 enum-told-12 c = search needs
 
-enum-told-13 : tie.Need-enum-told-13
-enum-told-13 c = search needs
-
 lane-requires : tie.Need-lane-requires
 lane-requires c κs = search needs
 
 write-sram8-requires : tie.Need-write-sram8-requires
 write-sram8-requires c κs = search needs
 
-enum-told-14 : tie.Need-enum-told-14
-enum-told-14 c = search needs
+enum-told-13 : tie.Need-enum-told-13
+enum-told-13 c = search needs
 
 returns : tie.Need-returns
 unfolding target puts16
@@ -155,57 +143,52 @@ same-length-3 c = search needs
 returns-5 : tie.Need-returns-5
 unfolding target puts16
 returns-5 c =
-    let d = c .before .before .before .before .before .before .before .before .before in
+    let d = c .before .before .before .before in
     let e = sym (d .before .before .decode .ensures) ∙ d .enum-told5 .given .1 in
-    let o = c .before .before .before .before .before .before .before .before .io-offset .ensures in
-    let at = sym o ∙ c .before .before .before .before .before .before .offset .given .1 in
-    let p = c .before .before .before .io .ensures in
-    (c .before .before .put-half3 .ensures ∙ simp (e, at, p .base, p .size), simp (e, at))
+    let w = c .before .before .write16-io .ensures in
+    (w .0 ∙ simp e, w .1 ∙ simp e)
+
+same-length-4 : tie.Need-same-length-4
+same-length-4 c = search needs
 
 returns-6 : tie.Need-returns-6
 unfolding target puts16
 returns-6 c =
-    let d = c .before .before .before in
-    let e = sym (d .before .before .decode .ensures) ∙ d .enum-told5 .given .1 in
-    let o = c .before .before .io-offset .ensures in
-    let no = sym o ∙ c .enum-told6 .given .1 in
-    (simp (e, no), simp (e, no))
+    let d = c .before .before .before .before .before .before in
+    let e = sym (d .before .before .decode .ensures) ∙ d .enum-told6 .given .1 in
+    let p = c .before .before .before .before .palette .ensures in
+    let o = c .before .before .before .palette-offset .ensures in
+    (c .before .before .put-half3 .ensures ∙ simp (e, p .base, p .size, o), simp e)
 
-same-length-4 : tie.Need-same-length-4
-same-length-4 c = search needs
+same-length-5 : tie.Need-same-length-5
+same-length-5 c = search needs
 
 returns-7 : tie.Need-returns-7
 unfolding target puts16
 returns-7 c =
     let d = c .before .before .before .before .before .before in
     let e = sym (d .before .before .decode .ensures) ∙ d .enum-told7 .given .1 in
-    let p = c .before .before .before .before .palette .ensures in
-    let o = c .before .before .before .palette-offset .ensures in
+    let p = c .before .before .before .before .vram .ensures in
+    let o = c .before .before .before .vram-offset .ensures in
     (c .before .before .put-half4 .ensures ∙ simp (e, p .base, p .size, o), simp e)
 
-same-length-5 : tie.Need-same-length-5
-same-length-5 c = search needs
+same-length-6 : tie.Need-same-length-6
+same-length-6 c = search needs
 
 returns-8 : tie.Need-returns-8
 unfolding target puts16
 returns-8 c =
     let d = c .before .before .before .before .before .before in
     let e = sym (d .before .before .decode .ensures) ∙ d .enum-told8 .given .1 in
-    let p = c .before .before .before .before .vram .ensures in
-    let o = c .before .before .before .vram-offset .ensures in
+    let p = c .before .before .before .before .oam .ensures in
+    let o = c .before .before .before .oam-offset .ensures in
     (c .before .before .put-half5 .ensures ∙ simp (e, p .base, p .size, o), simp e)
-
-same-length-6 : tie.Need-same-length-6
-same-length-6 c = search needs
 
 returns-9 : tie.Need-returns-9
 unfolding target puts16
 returns-9 c =
-    let d = c .before .before .before .before .before .before in
-    let e = sym (d .before .before .decode .ensures) ∙ d .enum-told9 .given .1 in
-    let p = c .before .before .before .before .oam .ensures in
-    let o = c .before .before .before .oam-offset .ensures in
-    (c .before .before .put-half6 .ensures ∙ simp (e, p .base, p .size, o), simp e)
+    let e = sym (c .before .before .decode .ensures) ∙ c .enum-told9 .given .1 in
+    (simp e, simp e)
 
 returns-10 : tie.Need-returns-10
 unfolding target puts16
@@ -219,26 +202,20 @@ returns-11 c =
     let e = sym (c .before .before .decode .ensures) ∙ c .enum-told11 .given .1 in
     (simp e, simp e)
 
+same-length-7 : tie.Need-same-length-7
+same-length-7 c = search needs
+
 returns-12 : tie.Need-returns-12
 unfolding target puts16
 returns-12 c =
-    let e = sym (c .before .before .decode .ensures) ∙ c .enum-told12 .given .1 in
-    (simp e, simp e)
-
-same-length-7 : tie.Need-same-length-7
-same-length-7 c = search needs
+    let d = c .before .before .before .before .before in
+    let e = sym (d .before .before .decode .ensures) ∙ d .enum-told12 .given .1 in
+    (c .before .before .write-sram8 .ensures ∙ simp (e, c .before .before .before .before .lane .ensures), simp e)
 
 returns-13 : tie.Need-returns-13
 unfolding target puts16
 returns-13 c =
-    let d = c .before .before .before .before .before in
-    let e = sym (d .before .before .decode .ensures) ∙ d .enum-told13 .given .1 in
-    (c .before .before .write-sram8 .ensures ∙ simp (e, c .before .before .before .before .lane .ensures), simp e)
-
-returns-14 : tie.Need-returns-14
-unfolding target puts16
-returns-14 c =
-    let e = sym (c .before .before .decode .ensures) ∙ c .enum-told14 .given .1 in
+    let e = sym (c .before .before .decode .ensures) ∙ c .enum-told13 .given .1 in
     (simp e, simp e)
 
 pub write16-spec : {M : Type 1} → statement M
@@ -257,30 +234,26 @@ write16-spec =
     iwram-offset-requires
     put-half-requires-2
     enum-told-5
-    io-offset-requires
-    enum-known-offset
-    io-requires
-    put-half-requires-3
+    write16-io-requires
     enum-told-6
-    enum-told-7
     palette-requires
     palette-offset-requires
-    put-half-requires-4
-    enum-told-8
+    put-half-requires-3
+    enum-told-7
     vram-requires
     vram-offset-requires
-    put-half-requires-5
-    enum-told-9
+    put-half-requires-4
+    enum-told-8
     oam-requires
     oam-offset-requires
-    put-half-requires-6
+    put-half-requires-5
+    enum-told-9
     enum-told-10
     enum-told-11
     enum-told-12
-    enum-told-13
     lane-requires
     write-sram8-requires
-    enum-told-14
+    enum-told-13
     returns
     returns-2
     same-length
@@ -289,16 +262,15 @@ write16-spec =
     returns-4
     same-length-3
     returns-5
-    returns-6
     same-length-4
-    returns-7
+    returns-6
     same-length-5
-    returns-8
+    returns-7
     same-length-6
+    returns-8
     returns-9
     returns-10
     returns-11
-    returns-12
     same-length-7
-    returns-13
-    returns-14)
+    returns-12
+    returns-13)

@@ -41,23 +41,11 @@ put-requires-2 c κs = search needs
 enum-told-5 : tie.Need-enum-told-5
 enum-told-5 c = search needs
 
-io-offset-requires : tie.Need-io-offset-requires
-io-offset-requires c κs = search needs
-
-enum-known-offset : tie.Need-enum-known-offset
-enum-known-offset c = search needs
-
-io-requires : tie.Need-io-requires
-io-requires c κs = search needs
-
-put-requires-3 : tie.Need-put-requires-3
-put-requires-3 c κs = search needs
+write8-io-requires : tie.Need-write8-io-requires
+write8-io-requires c κs = search needs
 
 enum-told-6 : tie.Need-enum-told-6
 enum-told-6 c = search needs
-
-enum-told-7 : tie.Need-enum-told-7
-enum-told-7 c = search needs
 
 palette-requires : tie.Need-palette-requires
 palette-requires c κs = search needs
@@ -68,11 +56,14 @@ palette-offset-requires c κs = search needs
 write8-video-requires : tie.Need-write8-video-requires
 write8-video-requires c κs = search needs
 
-enum-told-8 : tie.Need-enum-told-8
-enum-told-8 c = search needs
+enum-told-7 : tie.Need-enum-told-7
+enum-told-7 c = search needs
 
 write8-vram-requires : tie.Need-write8-vram-requires
 write8-vram-requires c κs = search needs
+
+enum-told-8 : tie.Need-enum-told-8
+enum-told-8 c = search needs
 
 enum-told-9 : tie.Need-enum-told-9
 enum-told-9 c = search needs
@@ -86,14 +77,11 @@ enum-told-11 c = search needs
 enum-told-12 : tie.Need-enum-told-12
 enum-told-12 c = search needs
 
-enum-told-13 : tie.Need-enum-told-13
-enum-told-13 c = search needs
-
 write-sram8-requires : tie.Need-write-sram8-requires
 write-sram8-requires c κs = search needs
 
-enum-told-14 : tie.Need-enum-told-14
-enum-told-14 c = search needs
+enum-told-13 : tie.Need-enum-told-13
+enum-told-13 c = search needs
 
 returns : tie.Need-returns
 unfolding target puts8
@@ -137,30 +125,19 @@ same-length-3 c = search needs
 returns-5 : tie.Need-returns-5
 unfolding target puts8
 returns-5 c =
-    let d = c .before .before .before .before .before .before .before .before .before in
+    let d = c .before .before .before .before in
     let e = sym (d .before .before .decode .ensures) ∙ d .enum-told5 .given .1 in
-    let o = c .before .before .before .before .before .before .before .before .io-offset .ensures in
-    let at = sym o ∙ c .before .before .before .before .before .before .offset .given .1 in
-    let p = c .before .before .before .io .ensures in
-    (c .before .before .put3 .ensures ∙ simp (e, at, p .base, p .size), simp (e, at))
-
-returns-6 : tie.Need-returns-6
-unfolding target puts8
-returns-6 c =
-    let d = c .before .before .before in
-    let e = sym (d .before .before .decode .ensures) ∙ d .enum-told5 .given .1 in
-    let o = c .before .before .io-offset .ensures in
-    let no = sym o ∙ c .enum-told6 .given .1 in
-    (simp (e, no), simp (e, no))
+    let w = c .before .before .write8-io .ensures in
+    (w .0 ∙ simp e, w .1 ∙ simp e)
 
 same-length-4 : tie.Need-same-length-4
 same-length-4 c = search needs
 
-returns-7 : tie.Need-returns-7
+returns-6 : tie.Need-returns-6
 unfolding target puts8
-returns-7 c =
+returns-6 c =
     let d = c .before .before .before .before .before .before in
-    let e = sym (d .before .before .decode .ensures) ∙ d .enum-told7 .given .1 in
+    let e = sym (d .before .before .decode .ensures) ∙ d .enum-told6 .given .1 in
     let p = c .before .before .before .before .before .palette .ensures in
     let o = c .before .before .before .before .palette-offset .ensures in
     let w = c .before .before .write8-video .ensures in
@@ -169,13 +146,19 @@ returns-7 c =
 same-length-5 : tie.Need-same-length-5
 same-length-5 c = search needs
 
+returns-7 : tie.Need-returns-7
+unfolding target puts8
+returns-7 c =
+    let d = c .before .before .before .before in
+    let e = sym (d .before .before .decode .ensures) ∙ d .enum-told7 .given .1 in
+    let w = c .before .before .write8-vram .ensures in
+    (w .0 ∙ simp e, w .1 ∙ simp e)
+
 returns-8 : tie.Need-returns-8
 unfolding target puts8
 returns-8 c =
-    let d = c .before .before .before .before in
-    let e = sym (d .before .before .decode .ensures) ∙ d .enum-told8 .given .1 in
-    let w = c .before .before .write8-vram .ensures in
-    (w .0 ∙ simp e, w .1 ∙ simp e)
+    let e = sym (c .before .before .decode .ensures) ∙ c .enum-told8 .given .1 in
+    (simp e, simp e)
 
 returns-9 : tie.Need-returns-9
 unfolding target puts8
@@ -195,26 +178,20 @@ returns-11 c =
     let e = sym (c .before .before .decode .ensures) ∙ c .enum-told11 .given .1 in
     (simp e, simp e)
 
+same-length-6 : tie.Need-same-length-6
+same-length-6 c = search needs
+
 returns-12 : tie.Need-returns-12
 unfolding target puts8
 returns-12 c =
-    let e = sym (c .before .before .decode .ensures) ∙ c .enum-told12 .given .1 in
-    (simp e, simp e)
-
-same-length-6 : tie.Need-same-length-6
-same-length-6 c = search needs
+    let d = c .before .before .before .before in
+    let e = sym (d .before .before .decode .ensures) ∙ d .enum-told12 .given .1 in
+    (c .before .before .write-sram8 .ensures ∙ simp e, simp e)
 
 returns-13 : tie.Need-returns-13
 unfolding target puts8
 returns-13 c =
-    let d = c .before .before .before .before in
-    let e = sym (d .before .before .decode .ensures) ∙ d .enum-told13 .given .1 in
-    (c .before .before .write-sram8 .ensures ∙ simp e, simp e)
-
-returns-14 : tie.Need-returns-14
-unfolding target puts8
-returns-14 c =
-    let e = sym (c .before .before .decode .ensures) ∙ c .enum-told14 .given .1 in
+    let e = sym (c .before .before .decode .ensures) ∙ c .enum-told13 .given .1 in
     (simp e, simp e)
 
 pub write8-spec : {M : Type 1} → statement M
@@ -233,24 +210,20 @@ write8-spec =
     iwram-offset-requires
     put-requires-2
     enum-told-5
-    io-offset-requires
-    enum-known-offset
-    io-requires
-    put-requires-3
+    write8-io-requires
     enum-told-6
-    enum-told-7
     palette-requires
     palette-offset-requires
     write8-video-requires
-    enum-told-8
+    enum-told-7
     write8-vram-requires
+    enum-told-8
     enum-told-9
     enum-told-10
     enum-told-11
     enum-told-12
-    enum-told-13
     write-sram8-requires
-    enum-told-14
+    enum-told-13
     returns
     returns-2
     same-length
@@ -259,15 +232,14 @@ write8-spec =
     returns-4
     same-length-3
     returns-5
-    returns-6
     same-length-4
-    returns-7
+    returns-6
     same-length-5
+    returns-7
     returns-8
     returns-9
     returns-10
     returns-11
-    returns-12
     same-length-6
-    returns-13
-    returns-14)
+    returns-12
+    returns-13)
