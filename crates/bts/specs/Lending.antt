@@ -1,4 +1,4 @@
--- What the exported run is lent and what it gives back, as the definitions have it; and what an accepted run's parts make of it.
+-- What the exported run gives back, as the definitions have it; and what an accepted run's parts make of it.
 use mathlib.Core.Path.{_≡_, sym, ap, _∙_}
 use mathlib.Core.List.{List}
 use Prim.Native.Nat.{ℕ}
@@ -14,10 +14,6 @@ use Rattle.model.specs.declared.Lengths.{Lengths}
 use Rattle.model.specs.declared.Refusal.{Refusal}
 use Rattle.model.specs.declared.Verdict.the-variants.{Accepted, Refused}
 use Rattle.bts.specs.declared.Report.{Report}
-
-abbrev pub lending : List ℕ → List ℕ → List ℕ → List ℕ → List ℕ → List ℕ → Lengths → Lent
-lending sheet board store bios rom answers l =
-    record { sheet = sheet; board = board; store = store; bios = bios; rom = rom; answers = answers; lengths = l }
 
 -- a report, with what stands in the lent buffers then
 abbrev pub reported : Report → List ℕ → List ℕ → List ℕ → Outcome

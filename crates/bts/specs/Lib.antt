@@ -2,5 +2,4 @@ pub mod Progress
 pub mod Whole
 pub mod Turning
 pub mod Lending
-pub mod Verdicts
 pub mod Promises

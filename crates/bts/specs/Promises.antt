@@ -12,7 +12,7 @@ use Rattle.model.specs.Alike.{AlikeSheets, AlikeBoards, Limits, cyclesFrom}
 use Rattle.model.specs.Laws.Refusal.{Acceptable, zero-exactly, Untouched, refused-untouched}
 use Rattle.model.specs.Laws.Fits.{board-sound, total-fits}
 use Rattle.model.specs.Laws.Demand3.{demand3}
-use Rattle.bts.specs.Verdicts.{ready, index-small}
+use Rattle.examine.specs.Verdicts.{ready, index-small}
 use Rattle.model.specs.declared.Verdict.{Verdict}
 use Rattle.model.specs.declared.Verdict.the-variants.{Accepted, Refused}
 

@@ -1,5 +1,4 @@
 // The run of a sheet over a lent board and lent memories, exported to C as `bts_run`. include/bts.h documents it for C.
-mod check;
 mod run;
 
 use model::Lengths;
@@ -8,7 +7,8 @@ use records::sheet;
 ghost use mathlib.Core.Path.{_≡_};
 ghost use Rattle.model.specs.Outcome.{verdict, outcomeBy, outcome};
 ghost use Rattle.model.specs.declared.Verdict.the-variants.{Accepted};
-ghost use Rattle.bts.specs.Lending.{lending, reported};
+ghost use Rattle.examine.specs.Lending.{lending};
+ghost use Rattle.bts.specs.Lending.{reported};
 
 // What a run gives back: 0, the number of records and the total; or the refusal's number and index, and 0.
 #[repr(C)]
@@ -84,12 +84,12 @@ pub extern "C" fn bts_run(
         oam,
         sram,
     };
-    let verdict = check::examine(sheet, board, store, bios, rom, answers, lengths);
+    let verdict = examine::examine(sheet, board, store, bios, rom, answers, lengths);
     match verdict {
         Verdict::Accepted => run_accepted(sheet, board, store, bios, rom, answers, lengths),
         Verdict::Refused(refusal) => Report {
-            number: check::refusal_number(refusal),
-            index: check::refusal_index(refusal) as u32,
+            number: examine::refusal_number(refusal),
+            index: examine::refusal_index(refusal) as u32,
             total: 0,
         },
     }

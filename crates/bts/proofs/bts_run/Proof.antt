@@ -1,8 +1,9 @@
 -- `bts_run` meets its contract: the verdict decides, an accepted sheet is run, a refused one changes nothing. Assumes nothing.
 use mathlib.Core.Path.{refl, sym, ap, _∙_}
 use Rattle.model.specs.Outcome.{outcome, outcomeBy}
-use Rattle.bts.specs.Lending.{lending, refused-from}
-use Rattle.bts.specs.Verdicts.{index-small}
+use Rattle.examine.specs.Lending.{lending}
+use Rattle.bts.specs.Lending.{refused-from}
+use Rattle.examine.specs.Verdicts.{index-small}
 use native.Mathlib.Omega.{arith}
 use borrow.Author.Needs.{needs}
 use Rattle.bts.proofs.bts_run.Statement.{statement}

@@ -1,8 +1,9 @@
 -- `run_accepted` meets its contract: an accepted sheet gives each callee what it asks, and the run's parts make the accepted outcome. Assumes nothing.
 use mathlib.Core.Path.{refl}
-use Rattle.bts.specs.Lending.{lending, accepted-from}
+use Rattle.examine.specs.Lending.{lending}
+use Rattle.bts.specs.Lending.{accepted-from}
 use Rattle.step.specs.Parts.{stateFrom}
-use Rattle.bts.specs.Verdicts.{ready}
+use Rattle.examine.specs.Verdicts.{ready}
 use native.Mathlib.Omega.{arith}
 use borrow.Author.Needs.{needs}
 use Rattle.bts.proofs.run_accepted.Statement.{statement}

@@ -1,8 +1,8 @@
 -- `lengths_fit` meets its contract: the sizes are tested before they are added, so that no sum wraps. Assumes nothing.
-use Rattle.bts.specs.Verdicts.{sized, too-long, long-enough}
+use Rattle.examine.specs.Verdicts.{sized, too-long, long-enough}
 use native.Mathlib.Omega.{arith}
-use Rattle.bts.proofs.check.lengths_fit.Statement.{statement}
-use Rattle.bts.proofs.check.lengths_fit.Tie as tie
+use Rattle.examine.proofs.lengths_fit.Statement.{statement}
+use Rattle.examine.proofs.lengths_fit.Tie as tie
 
 returns : tie.Need-returns
 returns c = too-long (c .before .before .before .before .before .before .before .before .args .lengths) (c .before .before .before .before .before .before .before .before .args .store) (c .before .before .before .before .before .before .before .before .args .bios) (c .before .before .before .before .before .before .before .before .args .rom) (c .if1 .taken)

@@ -6,7 +6,7 @@ use records::sheet;
 ghost use mathlib.Core.Path.{_≡_};
 ghost use lib.ListN.{length};
 ghost use Rattle.model.specs.Outcome as def;
-ghost use Rattle.bts.specs.Lending.{lending};
+ghost use Rattle.examine.specs.Lending.{lending};
 
 // No memory is longer than its physical size, and the seven add up to the store. Each is tested before they are added, so
 // that no sum wraps.

@@ -6,14 +6,14 @@ use lib.ListN.{length}
 use borrow.Author.Tests.{eq-eqb, ne-eqb, lt-ltb, le-ltb, not-false}
 use Rattle.model.specs.Sheet.{versionOf, recordCount, recordsFrom, leastFaulty}
 use Rattle.model.specs.Outcome.{faultIndex}
-use Rattle.bts.specs.Lending.{lending}
-use Rattle.bts.specs.Verdicts.{bad-mark, bad-version, bad-shape, bad-lengths, unsound-board, short-answers, faulty-record, no-fault, shaped}
+use Rattle.examine.specs.Lending.{lending}
+use Rattle.examine.specs.Verdicts.{bad-mark, bad-version, bad-shape, bad-lengths, unsound-board, short-answers, faulty-record, no-fault, shaped}
 use Rattle.model.specs.declared.Refusal.the-variants.{FaultyRecord}
 use Rattle.model.specs.declared.Verdict.the-variants.{Refused}
 use native.Mathlib.Omega.{arith}
 use borrow.Author.Needs.{needs}
-use Rattle.bts.proofs.check.examine.Statement.{statement}
-use Rattle.bts.proofs.check.examine.Tie as tie
+use Rattle.examine.proofs.examine.Statement.{statement}
+use Rattle.examine.proofs.examine.Tie as tie
 
 is-marked-requires : tie.Need-is-marked-requires
 is-marked-requires c κs = search needs

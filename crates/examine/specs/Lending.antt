@@ -1,0 +1,9 @@
+-- All that a run is lent, as the definitions have it.
+use mathlib.Core.List.{List}
+use Prim.Native.Nat.{ℕ}
+use Rattle.model.specs.Outcome.{Lent}
+use Rattle.model.specs.declared.Lengths.{Lengths}
+
+abbrev pub lending : List ℕ → List ℕ → List ℕ → List ℕ → List ℕ → List ℕ → Lengths → Lent
+lending sheet board store bios rom answers l =
+    record { sheet = sheet; board = board; store = store; bios = bios; rom = rom; answers = answers; lengths = l }
