@@ -17,6 +17,9 @@ use Rattle.model.specs.declared.Answer.{Answer}
 abbrev pub boardLength : ℕ
 boardLength = 72
 
+abbrev pub answerLength : ℕ
+answerLength = 12
+
 -- ---- from bytes
 
 abbrev pub prefetchOf : List ℕ → Bool → PrefetchBuffer

@@ -16,11 +16,21 @@ use Rattle.model.specs.declared.Step.the-variants.{Read, Write, Waitcnt,
 
 -- ---- the header: bytes 0-2 "BTS", 3-4 the version, 5 zero, 6-7 the number of records
 
+abbrev pub headerLength : ℕ
+headerLength = 8
+
+abbrev pub recordLength : ℕ
+recordLength = 12
+
 abbrev pub maxRecords : ℕ
 maxRecords = 4096
 
+-- the one version there is
+abbrev pub sheetVersion : ℕ
+sheetVersion = 1
+
 abbrev pub isMarked : List ℕ → Bool
-isMarked s = leb 8 (length s) && eqb (byteAt s 0) 0x42 && eqb (byteAt s 1) 0x54 && eqb (byteAt s 2) 0x53
+isMarked s = leb headerLength (length s) && eqb (byteAt s 0) 0x42 && eqb (byteAt s 1) 0x54 && eqb (byteAt s 2) 0x53
 
 abbrev pub versionOf : List ℕ → ℕ
 versionOf s = number 2 s 3
@@ -30,19 +40,23 @@ recordCount s = number 2 s 6
 
 -- byte 5 is zero, there are not too many records, and the sheet is as long as they are
 abbrev pub isShaped : List ℕ → Bool
-isShaped s = eqb (byteAt s 5) 0 && leb (recordCount s) maxRecords && eqb (length s) (8 + 12 * recordCount s)
+isShaped s = eqb (byteAt s 5) 0 && leb (recordCount s) maxRecords && eqb (length s) (headerLength + recordLength * recordCount s)
 
 -- ---- a record: 12 bytes
+
+-- where record k begins
+abbrev pub recordStart : ℕ → ℕ
+recordStart k = headerLength + recordLength * k
 
 unfoldable pub recordAt : List ℕ → ℕ → SheetRecord
 recordAt s k =
     record {
-      kind = byteAt s (8 + 12 * k);
-      size = byteAt s (8 + 12 * k + 1);
-      flag = byteAt s (8 + 12 * k + 2);
-      «zero_byte» = byteAt s (8 + 12 * k + 3);
-      address = number 4 s (8 + 12 * k + 4);
-      value = number 4 s (8 + 12 * k + 8);
+      kind = byteAt s (recordStart k);
+      size = byteAt s (recordStart k + 1);
+      flag = byteAt s (recordStart k + 2);
+      «zero_byte» = byteAt s (recordStart k + 3);
+      address = number 4 s (recordStart k + 4);
+      value = number 4 s (recordStart k + 8);
     }
 
 -- n records from number k on

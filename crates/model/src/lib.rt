@@ -130,6 +130,22 @@ pub struct InsnCycles {
     pub fetch_kind: AccessKind,
 }
 
+// ---- added: the layouts, in bytes. specs/ has the same numbers under the same names, and include/bts.h has them for C.
+
+pub const HEADER_LENGTH: usize = 8;
+
+pub const RECORD_LENGTH: usize = 12;
+
+pub const ANSWER_LENGTH: usize = 12;
+
+pub const BOARD_LENGTH: usize = 72;
+
+// The most records of a sheet.
+pub const MAX_RECORDS: usize = 4096;
+
+// The version of a sheet.
+pub const VERSION: u16 = 1;
+
 // ---- added: a step, and the state that a run carries
 
 // A record of a sheet: its 12 bytes as fields.
