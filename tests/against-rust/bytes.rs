@@ -69,6 +69,18 @@ pub fn u64_at(b: &[u8], at: usize) -> u64 {
     u64::from(u32_at(b, at)) | u64::from(u32_at(b, at + 4)) << 32
 }
 
+// ---- store ----
+
+/// The seven memories of a store, in its order; the lengths add up to its own.
+pub fn parts_of(store: &[u8], lengths: [usize; 7]) -> [&[u8]; 7] {
+    let mut rest = store;
+    lengths.map(|length| {
+        let (part, after) = rest.split_at(length);
+        rest = after;
+        part
+    })
+}
+
 // ---- sheet ----
 
 /// The number of records that the header names.

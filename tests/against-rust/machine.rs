@@ -95,12 +95,7 @@ impl Machine {
     fn new(case: &Case) -> Machine {
         let board = Board::of(&case.board);
         let waitcnt = WaitCnt::from_u16(board.waitcnt);
-        let mut rest: &[u8] = &case.store;
-        let mut memories = case.lengths.iter().map(|&length| {
-            let (part, after) = rest.split_at(length);
-            rest = after;
-            part.to_vec()
-        });
+        let mut memories = parts_of(&case.store, case.lengths).into_iter().map(<[u8]>::to_vec);
         let mut memory = || memories.next().unwrap();
         let bus = Bus {
             ewram: memory(),

@@ -11,6 +11,7 @@ mod gen;
 mod machine;
 mod notation;
 mod refusals;
+mod rng;
 mod sample;
 mod steps;
 mod sweeps;

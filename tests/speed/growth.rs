@@ -80,7 +80,7 @@ fn tell(name: &str, times: &Sorted, base: Option<&Sorted>) -> Option<String> {
 
 /// The table; the names of what grows.
 pub fn show(rounds: usize) -> Result<Vec<String>, String> {
-    println!("the library alone, ns a record, {rounds} rounds; ratio to the line marked *");
+    println!("third: the library alone; ns a record, {rounds} rounds; ratio to the line marked *");
     println!("{:<44} {:>7} {:>7} {:>15} {:>6} {:>6}", "", "best", "median", "", "best", "median");
     let mut growing = idle_values(rounds)?;
     growing.extend(lengths(rounds)?);
@@ -129,7 +129,7 @@ fn lengths(rounds: usize) -> Result<Vec<String>, String> {
 
 /// One piece of mixed records again and again, so that only the steps' numbers differ.
 fn numbers(rounds: usize) -> Result<Vec<String>, String> {
-    let piece = sheets::mixed(PIECE);
+    let piece = sheets::mixed(PIECE, 0);
     let memories = Memories::random(10, SIZES, BIOS_SIZE, sheets::ROM_LEN);
     let case = |n: usize| {
         Case::new(&format!("mixed, sheet of {n}"), &piece.repeat(n / PIECE), memories.clone())

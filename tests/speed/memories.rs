@@ -4,7 +4,7 @@ use crate::bus::region::{
     EWRAM_SIZE, IO_SIZE, IWRAM_SIZE, OAM_SIZE, PALETTE_SIZE, SRAM_WINDOW_SIZE, VRAM_SIZE,
 };
 use crate::bytes::*;
-use crate::sheets::Rng;
+use crate::rng::Rng;
 
 /// The sizes of the seven memories of the store, in its order.
 pub const SIZES: [usize; 7] =
@@ -45,14 +45,7 @@ impl Memories {
     }
 
     /// The seven memories of the store, in its order.
-    pub fn parts(&self) -> Vec<&[u8]> {
-        let mut rest: &[u8] = &self.store;
-        let mut parts = Vec::new();
-        for &length in &self.lengths {
-            let (part, after) = rest.split_at(length);
-            parts.push(part);
-            rest = after;
-        }
-        parts
+    pub fn parts(&self) -> [&[u8]; 7] {
+        parts_of(&self.store, self.lengths)
     }
 }

@@ -32,12 +32,7 @@ const NOTHING: Done = Done { value: 0, cycles: 0, hits: 0, idle: 0 };
 
 impl Machine {
     pub fn new(m: &Memories) -> Machine {
-        let mut rest: &[u8] = &m.store;
-        let mut parts = m.lengths.iter().map(|&length| {
-            let (part, after) = rest.split_at(length);
-            rest = after;
-            part.to_vec()
-        });
+        let mut parts = m.parts().into_iter().map(<[u8]>::to_vec);
         let mut part = || parts.next().unwrap();
         let bus = Bus {
             ewram: part(),

@@ -1,6 +1,7 @@
 //! The sheets that are timed, made from fixed seeds: each is the same at every run.
 
 use crate::bytes::*;
+use crate::rng::Rng;
 
 pub const RECORDS: usize = MOST_RECORDS;
 
@@ -10,52 +11,20 @@ pub const ROM_LEN: usize = 1 << 20;
 /// WAITCNT as most cartridges set it (the Rust's `COMMERCIAL_COMMON`): prefetch on.
 const COMMON: u32 = 0x4317;
 
+/// WAITCNT's switch of the prefetch, and the bits of all waits: SRAM's and the three windows'.
+const PREFETCH_ON: u32 = 0x4000;
+const ALL_WAITS: u32 = 0x07FF;
+
 const ENTRY: u32 = 0x0800_0100;
 
-// ---- numbers ----
+/// Sheet `number` of a sort has a seed of its own.
+fn seeded(sort: u64, number: u64) -> Rng {
+    Rng::new(sort + 1000 * number)
+}
 
-/// A xorshift generator (64 bits, shifts 13, 7, 17); the seed is spread first.
-pub struct Rng(u64);
-
-impl Rng {
-    pub fn new(seed: u64) -> Rng {
-        let spread = seed.wrapping_add(0x9E37_79B9_7F4A_7C15).wrapping_mul(0xBF58_476D_1CE4_E5B9);
-        Rng((spread ^ spread >> 31) | 1)
-    }
-
-    fn next(&mut self) -> u64 {
-        self.0 ^= self.0 << 13;
-        self.0 ^= self.0 >> 7;
-        self.0 ^= self.0 << 17;
-        self.0
-    }
-
-    fn u32(&mut self) -> u32 {
-        (self.next() >> 24) as u32
-    }
-
-    /// 0 to n − 1.
-    fn below(&mut self, n: usize) -> usize {
-        ((self.next() >> 20) % n as u64) as usize
-    }
-
-    /// True once in n times.
-    fn one_in(&mut self, n: usize) -> bool {
-        self.below(n) == 0
-    }
-
-    fn pick<T: Copy>(&mut self, from: &[T]) -> T {
-        from[self.below(from.len())]
-    }
-
-    pub fn bytes(&mut self, len: usize) -> Vec<u8> {
-        let mut out = Vec::with_capacity(len + 8);
-        while out.len() < len {
-            out.extend_from_slice(&self.next().to_le_bytes());
-        }
-        out.truncate(len);
-        out
-    }
+/// True once in n times.
+fn one_in(rng: &mut Rng, n: usize) -> bool {
+    rng.below(n) == 0
 }
 
 // ---- places ----
@@ -68,12 +37,12 @@ const PLACES: [(u32, usize); 11] = [
 
 /// An address of any memory, and one in 32 times of none; most are aligned to the access.
 fn data_address(rng: &mut Rng, size: u8) -> u32 {
-    if rng.one_in(32) {
+    if one_in(rng, 32) {
         return rng.pick(&[0x0000_4000, 0x0100_0000, 0x0400_0400, 0x1000_0000, 0xFFFF_FFFC]);
     }
     let (top, span) = rng.pick(&PLACES);
     let address = top << 24 | rng.below(span) as u32;
-    if rng.one_in(8) {
+    if one_in(rng, 8) {
         return address;
     }
     address & !(u32::from(size) - 1)
@@ -105,14 +74,14 @@ struct Code {
 
 impl Code {
     fn instruction(&mut self, rng: &mut Rng, places: fn(&mut Rng) -> u32) -> Record {
-        let jump = rng.one_in(10);
+        let jump = one_in(rng, 10);
         let mut record = Record::new(INSTRUCTION, self.size, self.at, rng.u32());
         record.flag = u8::from(jump);
         self.at = self.at.wrapping_add(u32::from(self.size));
         if jump {
             self.at = places(rng);
         }
-        if jump && rng.one_in(4) {
+        if jump && one_in(rng, 4) {
             self.size = 6 - self.size;
         }
         record
@@ -140,7 +109,7 @@ fn of_kind(kind: u8, rng: &mut Rng, code: &mut Code) -> Record {
             Record::new(FETCH, 0, code.at.wrapping_sub(2), 0)
         }
         RESTART => {
-            if rng.one_in(4) {
+            if one_in(rng, 4) {
                 code.at = rom_code(rng);
             }
             Record::new(RESTART, 0, code.at, 0)
@@ -154,16 +123,35 @@ fn of_kind(kind: u8, rng: &mut Rng, code: &mut Code) -> Record {
     }
 }
 
-// ---- sheets ----
+// ---- sorts ----
 
-/// Prefetch on, and filling from the entry.
-fn opening() -> Vec<Record> {
-    vec![Record::new(WAITCNT, 0, 0, COMMON), Record::new(RESTART, 0, ENTRY, 0)]
+/// A sort of sheets that both sides run.
+pub struct Sort {
+    pub name: &'static str,
+    /// The name in the lines for programs.
+    pub word: &'static str,
+    /// Whether the library must not be slower here.
+    pub judged: bool,
+    /// The records of the sheet with a number; `RECORDS` of them.
+    pub records: fn(u64) -> Vec<Record>,
+}
+
+pub static SORTS: [Sort; 5] = [
+    Sort { name: "mixed kinds", word: "mixed", judged: true, records: |number| mixed(RECORDS, number) },
+    Sort { name: "INSTRUCTION in ROM, prefetch on", word: "instruction", judged: true, records: instructions },
+    Sort { name: "READ and WRITE", word: "access", judged: true, records: reads_and_writes },
+    Sort { name: "IDLE 1", word: "idle", judged: true, records: idle_1 },
+    Sort { name: "IDLE 1, always filling (not judged)", word: "filling", judged: false, records: idle_1_filling },
+];
+
+/// Prefetch on, and filling from a place in ROM.
+fn opening(waitcnt: u32, place: u32) -> Vec<Record> {
+    vec![Record::new(WAITCNT, 0, 0, waitcnt), Record::new(RESTART, 0, place, 0)]
 }
 
 /// n records, each of the nine kinds equally often, in random order.
-pub fn mixed(n: usize) -> Vec<Record> {
-    let mut rng = Rng::new(1);
+pub fn mixed(n: usize, number: u64) -> Vec<Record> {
+    let mut rng = seeded(1, number);
     let mut code = Code { at: ENTRY, size: 2 };
     (0..n)
         .map(|_| {
@@ -174,31 +162,36 @@ pub fn mixed(n: usize) -> Vec<Record> {
 }
 
 /// INSTRUCTION in ROM with prefetch on, Thumb and ARM.
-pub fn instructions() -> Vec<Record> {
-    let mut rng = Rng::new(2);
+fn instructions(number: u64) -> Vec<Record> {
+    let mut rng = seeded(2, number);
     let mut code = Code { at: ENTRY, size: 2 };
-    let mut records = opening();
+    let mut records = opening(COMMON, ENTRY);
     records.resize_with(RECORDS, || code.instruction(&mut rng, rom_code));
     records
 }
 
 /// READ and WRITE of all sizes in all regions.
-pub fn reads_and_writes() -> Vec<Record> {
-    let mut rng = Rng::new(3);
-    (0..RECORDS).map(|_| if rng.one_in(2) { read(&mut rng) } else { write(&mut rng) }).collect()
+fn reads_and_writes(number: u64) -> Vec<Record> {
+    let mut rng = seeded(3, number);
+    (0..RECORDS).map(|_| if one_in(&mut rng, 2) { read(&mut rng) } else { write(&mut rng) }).collect()
 }
 
-/// IDLE 1 with prefetch on. The buffer is full after some twenty of them.
-pub fn idle_1() -> Vec<Record> {
-    let mut records = opening();
+/// IDLE 1 with prefetch on. After the opening all its sheets are alike, so only that differs: sheet 0 has the usual one, whose
+/// buffer is full after some twenty IDLE 1, the others any waits and any place of the code.
+fn idle_1(number: u64) -> Vec<Record> {
+    let mut rng = seeded(5, number);
+    let mut records = match number {
+        0 => opening(COMMON, ENTRY),
+        _ => opening(PREFETCH_ON | rng.u32() & ALL_WAITS, rom_code(&mut rng)),
+    };
     records.resize(RECORDS, Record::new(IDLE, 0, 0, 1));
     records
 }
 
-/// IDLE 1 with prefetch on and a RESTART as soon as the buffer is full, so that it is always filling.
-pub fn idle_1_filling() -> Vec<Record> {
+/// IDLE 1 with prefetch on and a RESTART as soon as the buffer is full, so that it is always filling. There is one sheet.
+fn idle_1_filling(_: u64) -> Vec<Record> {
     let idle = Record::new(IDLE, 0, 0, 1);
-    let mut records = opening();
+    let mut records = opening(COMMON, ENTRY);
     while records.len() + 21 <= RECORDS {
         records.extend([idle; 20]);
         records.push(Record::new(RESTART, 0, ENTRY + 16 * records.len() as u32, 0));
@@ -207,9 +200,11 @@ pub fn idle_1_filling() -> Vec<Record> {
     records
 }
 
+// ---- sheets for the growth of a step ----
+
 /// IDLE of a value, each after a RESTART: the buffer is filled from nothing every time, as far as the value goes.
 pub fn restart_and_idle(value: u32) -> Vec<Record> {
-    let mut records = vec![Record::new(WAITCNT, 0, 0, 0x4000)];
+    let mut records = vec![Record::new(WAITCNT, 0, 0, PREFETCH_ON)];
     while records.len() + 2 <= RECORDS {
         records.push(Record::new(RESTART, 0, ENTRY, 0));
         records.push(Record::new(IDLE, 0, 0, value));

@@ -1,11 +1,13 @@
-// bench: prices a sheet. It reads the sheet from standard input, runs it on a fresh board over zeroed memories without BIOS or ROM,
-// and writes a line for each record (index, cycles, value, hits, prefetch count, force flag) and the total, or the refusal.
-use board::put_board;
+// bench: prices a sheet. It reads the sheet from standard input, runs it on a fresh board over zeroed memories without BIOS or
+// ROM, and writes a line for each record (index, cycles, value, hits, prefetch count, force flag) and the total, or the refusal.
 use libc::STDIN_FILENO;
 use libc::STDOUT_FILENO;
-use model::Board;
-ghost use Prim.Native.Nat.{_+_, _*_, _≤_};
-ghost use lib.ListN.{length};
+use model::ANSWER_LENGTH;
+use model::HEADER_LENGTH;
+use model::MAX_RECORDS;
+use model::RECORD_LENGTH;
+ghost use Prim.Native.Nat.{_≤_};
+ghost use Rattle.model.specs.Sheet.{maxRecords};
 
 fn number(n: u64) {
     io::print_decimal(STDOUT_FILENO, n);
@@ -21,14 +23,14 @@ fn column(n: u64) {
     number(n);
 }
 
-// The line of record k, whose answer stands at 12 · k.
+// The line of record k.
 fn print_answer(answers: &[u8], k: usize)
-    requires { ⌜ 12 * k + 12 ≤ length (now answers) ⌝ }
+    requires { ⌜ k ≤ maxRecords ⌝ }
 {
-    let at = 12 * k;
+    let at = ANSWER_LENGTH * k;
     number(k as u64);
-    column(le::read32(answers, at + 4) as u64);
-    column(le::read32(answers, at) as u64);
+    column(le::word_at(answers, at + 4) as u64);
+    column(le::word_at(answers, at) as u64);
     column(le::byte_at(answers, at + 8) as u64);
     column(le::byte_at(answers, at + 9) as u64);
     column(le::byte_at(answers, at + 10) as u64);
@@ -36,7 +38,7 @@ fn print_answer(answers: &[u8], k: usize)
 }
 
 fn print_answers(answers: &[u8], n: usize)
-    requires { ⌜ 12 * n ≤ length (now answers) ⌝ }
+    requires { ⌜ n ≤ maxRecords ⌝ }
 {
     let mut k: usize = 0;
     while k < n {
@@ -54,14 +56,9 @@ fn print_refusal(refusal: u32, index: u32) {
 }
 
 fn run_sheet(sheet: &[u8]) {
-    let fresh = Board::fresh();
-    let clock = fresh.clock;
-    let halves = fresh.halves;
-    let contents = fresh.contents;
-    let mut board = [0u8; 72];
-    put_board(&mut board, clock, halves, contents);
+    let mut board = board::fresh();
     let mut store = [0u8; 61444];
-    let mut answers = [0u8; 49152];
+    let mut answers = [0u8; ANSWER_LENGTH * MAX_RECORDS];
     let r = bts::bts_run(
         sheet,
         &mut board,
@@ -87,9 +84,9 @@ fn run_sheet(sheet: &[u8]) {
     text(b"\n");
 }
 
-// A sheet has at most 49,160 bytes; one byte more is enough to see that the input is longer than any.
+// One byte more than the longest sheet is enough to see that the input is longer than any.
 fn main() {
-    let mut input = [0u8; 49161];
+    let mut input = [0u8; HEADER_LENGTH + RECORD_LENGTH * MAX_RECORDS + 1];
     let n = io::read_full(STDIN_FILENO, &mut input);
     run_sheet(&input[..n]);
 }

@@ -1,4 +1,4 @@
-// A board's 72 bytes: reading them, writing them, and whether they are sound. From document 01, "Board".
+// A board as bytes: reading them, writing them, and whether they are sound. From document 01, "Board".
 use le::bit;
 use le::put_pair;
 use le::put16;
@@ -7,22 +7,25 @@ use le::put64;
 use le::read16;
 use le::read32;
 use le::read64;
+use model::BOARD_LENGTH;
+use model::Board;
 use model::Clock;
 use model::Contents;
 use model::PrefetchBuffer;
 use waits::in_window;
 use waits::waitcnt::WaitCnt;
 ghost use mathlib.Core.Path.{_≡_};
-ghost use mathlib.Core.List.{_++_, map};
+ghost use mathlib.Core.List.{map};
 ghost use Prim.Native.Nat.{_≤_};
 ghost use lib.ListN.{length};
-ghost use Rattle.model.specs.Base.{bytes, encoded, field};
+ghost use Rattle.model.specs.Base.{encoded, field};
 ghost use Rattle.model.specs.BoardBytes as def;
+ghost use Rattle.model.specs.Step.{freshBoard};
 
-pub const BOARD_LENGTH: usize = 72;
+// ---- reading
 
 fn load_prefetch(board: &[u8], enabled: bool) -> PrefetchBuffer
-    requires { ⌜ length (now board) ≡ 72 ⌝ }
+    requires { ⌜ length (now board) ≡ def.boardLength ⌝ }
     ensures { λ r. ⌜ r ≡ def.prefetchOf (now (board .entry)) enabled ⌝ }
 {
     PrefetchBuffer {
@@ -38,7 +41,7 @@ fn load_prefetch(board: &[u8], enabled: bool) -> PrefetchBuffer
 }
 
 pub fn load_clock(board: &[u8]) -> Clock
-    requires { ⌜ length (now board) ≡ 72 ⌝ }
+    requires { ⌜ length (now board) ≡ def.boardLength ⌝ }
     ensures { λ r. ⌜ r ≡ def.clockOf (now (board .entry)) ⌝ }
 {
     let waitcnt = read16(board, 0);
@@ -53,7 +56,7 @@ pub fn load_clock(board: &[u8]) -> Clock
 
 // The eight halfwords of the prefetch buffer.
 pub fn load_halves(board: &[u8]) -> [u16; 8]
-    requires { ⌜ length (now board) ≡ 72 ⌝ }
+    requires { ⌜ length (now board) ≡ def.boardLength ⌝ }
     ensures { λ r. ⌜ r ≡ def.halvesFrom (now (board .entry)) 20 8 ⌝ }
 {
     [
@@ -69,7 +72,7 @@ pub fn load_halves(board: &[u8]) -> [u16; 8]
 }
 
 pub fn load_contents(board: &[u8]) -> Contents
-    requires { ⌜ length (now board) ≡ 72 ⌝ }
+    requires { ⌜ length (now board) ≡ def.boardLength ⌝ }
     ensures { λ r. ⌜ r ≡ def.contentsOf (now (board .entry)) ⌝ }
 {
     Contents {
@@ -137,7 +140,7 @@ fn sound_prefetch(p: PrefetchBuffer) -> bool
 
 // Zero bytes are zero, flags are 0 or 1, and WAITCNT bit 13 is clear.
 fn sound_bytes(board: &[u8]) -> bool
-    requires { ⌜ length (now board) ≡ 72 ⌝ }
+    requires { ⌜ length (now board) ≡ def.boardLength ⌝ }
     ensures { λ r. ⌜ r ≡ def.soundBytes (now (board .entry)) ⌝ }
 {
     (board[7] == 0)
@@ -175,22 +178,15 @@ fn put_flags(out: &mut [u8], clock: Clock)
     out[7] = 0;
 }
 
-// Bytes 8 to 19.
-fn put_words(out: &mut [u8], p: PrefetchBuffer)
-    requires { ⌜ length (now out) ≡ 12 ⌝ }
-    ensures { λ _. ⌜ now (out .exit) ≡ encoded (def.wordFields p) ⌝ }
-{
-    put_pair(&mut out[0..8], p.wait_left, p.next_addr);
-    put32(&mut out[8..12], p.head_addr);
-}
-
-// Bytes 0 to 19.
+// Bytes 0 to 19: the flags, and three words.
 fn put_clock(out: &mut [u8], clock: Clock)
     requires { ⌜ length (now out) ≡ 20 ⌝ }
     ensures { λ _. ⌜ now (out .exit) ≡ encoded (def.clockFields clock) ⌝ }
 {
+    let p = clock.prefetch;
     put_flags(&mut out[0..8], clock);
-    put_words(&mut out[8..20], clock.prefetch);
+    put_pair(&mut out[8..16], p.wait_left, p.next_addr);
+    put32(&mut out[16..20], p.head_addr);
 }
 
 // Bytes 20 to 35.
@@ -206,37 +202,37 @@ fn put_halves(out: &mut [u8], halves: [u16; 8])
     }
 }
 
-// Bytes 44 to 67.
-fn put_counters(out: &mut [u8], vram: u64, oam: u64, palette: u64)
-    requires { ⌜ length (now out) ≡ 24 ⌝ }
-    ensures { λ _. ⌜ now (out .exit) ≡ bytes 8 vram ++ (bytes 8 oam ++ bytes 8 palette) ⌝ }
-{
-    put64(&mut out[0..8], vram);
-    put64(&mut out[8..16], oam);
-    put64(&mut out[16..24], palette);
-}
-
-// Bytes 36 to 71.
-fn put_contents(out: &mut [u8], d: Contents)
+// Bytes 36 to 71: two words, three counters, and four zero bytes.
+fn put_contents(out: &mut [u8], contents: Contents)
     requires { ⌜ length (now out) ≡ 36 ⌝ }
-    ensures { λ _. ⌜ now (out .exit) ≡ encoded (def.contentsFields d) ⌝ }
+    ensures { λ _. ⌜ now (out .exit) ≡ encoded (def.contentsFields contents) ⌝ }
 {
-    put_pair(&mut out[0..8], d.cpu_pc, d.last_bios_opcode);
-    put_counters(
-        &mut out[8..32],
-        d.vram_write_count,
-        d.oam_write_count,
-        d.palette_write_count,
-    );
+    put_pair(&mut out[0..8], contents.cpu_pc, contents.last_bios_opcode);
+    put64(&mut out[8..16], contents.vram_write_count);
+    put64(&mut out[16..24], contents.oam_write_count);
+    put64(&mut out[24..32], contents.palette_write_count);
     put32(&mut out[32..36], 0);
 }
 
 // The whole board, written over what stood there.
 pub fn put_board(board: &mut [u8], clock: Clock, halves: [u16; 8], contents: Contents)
-    requires { ⌜ length (now board) ≡ 72 ⌝ }
+    requires { ⌜ length (now board) ≡ def.boardLength ⌝ }
     ensures { λ _. ⌜ now (board .exit) ≡ def.boardBytes (record { clock = clock; halves = halves; contents = contents }) ⌝ }
 {
     put_clock(&mut board[0..20], clock);
     put_halves(&mut board[20..36], halves);
-    put_contents(&mut board[36..72], contents);
+    put_contents(&mut board[36..BOARD_LENGTH], contents);
+}
+
+// The bytes of a fresh board.
+pub fn fresh() -> [u8; BOARD_LENGTH]
+    ensures { λ r. ⌜ r ≡ def.boardBytes freshBoard ⌝ }
+{
+    let board = Board::fresh();
+    let clock = board.clock;
+    let halves = board.halves;
+    let contents = board.contents;
+    let mut bytes = [0u8; BOARD_LENGTH];
+    put_board(&mut bytes, clock, halves, contents);
+    bytes
 }

@@ -1,5 +1,4 @@
-pub mod Progress
-pub mod Whole
-pub mod Turning
-pub mod Lending
+-- What the contracts of this crate cite, beside the model, and what follows from the exported one.
+pub mod Beginning
+pub mod Report
 pub mod Promises

@@ -7,8 +7,8 @@ use records::sheet;
 ghost use mathlib.Core.Path.{_≡_};
 ghost use Rattle.model.specs.Outcome.{verdict, outcomeBy, outcome};
 ghost use Rattle.model.specs.declared.Verdict.the-variants.{Accepted};
-ghost use Rattle.examine.specs.Lending.{lending};
-ghost use Rattle.bts.specs.Lending.{reported};
+ghost use Rattle.examine.specs.Lent.{lending};
+ghost use Rattle.bts.specs.Report.{reported};
 
 // What a run gives back: 0, the number of records and the total; or the refusal's number and index, and 0.
 #[repr(C)]
@@ -29,13 +29,15 @@ fn run_accepted(
     lengths: Lengths,
 ) -> Report
     requires { ⌜ verdict (lending (now sheet) (now board) (now store) (now bios) (now rom) (now answers) lengths) ≡ Accepted ⌝ }
-    ensures { λ r. ⌜ reported r (now (board .exit)) (now (store .exit)) (now (answers .exit)) ≡ outcomeBy (lending (now (sheet .entry)) (now (board .entry)) (now (store .entry)) (now (bios .entry)) (now (rom .entry)) (now (answers .entry)) lengths) Accepted ⌝ }
+    ensures { λ r. ⌜ reported r (now (board .exit)) (now (store .exit)) (now (answers .exit))
+        ≡ outcomeBy (lending (now (sheet .entry)) (now (board .entry)) (now (store .entry)) (now (bios .entry))
+            (now (rom .entry)) (now (answers .entry)) lengths) Accepted ⌝ }
 {
     let n = sheet::record_count(sheet);
     let clock = board::load_clock(board);
     let contents = board::load_contents(board);
     let mut halves = board::load_halves(board);
-    let ran = run::run_records(
+    let done = run::run_core(
         sheet,
         n,
         clock,
@@ -47,13 +49,13 @@ fn run_accepted(
         lengths,
         answers,
     );
-    let clock = ran.clock;
-    let contents = ran.contents;
-    board::put_board(board, clock, halves, contents);
+    let after = done.clock;
+    let left = done.contents;
+    board::put_board(board, after, halves, left);
     Report {
         number: 0,
         index: n as u32,
-        total: ran.total,
+        total: done.total,
     }
 }
 
@@ -73,7 +75,10 @@ pub extern "C" fn bts_run(
     oam: usize,
     sram: usize,
 ) -> Report
-    ensures { λ r. ⌜ reported r (now (board .exit)) (now (store .exit)) (now (answers .exit)) ≡ outcome (lending (now (sheet .entry)) (now (board .entry)) (now (store .entry)) (now (bios .entry)) (now (rom .entry)) (now (answers .entry)) (record { ewram = ewram; iwram = iwram; io = io; palette = palette; vram = vram; oam = oam; sram = sram })) ⌝ }
+    ensures { λ r. ⌜ reported r (now (board .exit)) (now (store .exit)) (now (answers .exit))
+        ≡ outcome (lending (now (sheet .entry)) (now (board .entry)) (now (store .entry)) (now (bios .entry))
+            (now (rom .entry)) (now (answers .entry))
+            (record { ewram = ewram; iwram = iwram; io = io; palette = palette; vram = vram; oam = oam; sram = sram })) ⌝ }
 {
     let lengths = Lengths {
         ewram,

@@ -1,2 +1,2 @@
-pub mod Lending
+pub mod Lent
 pub mod Verdicts

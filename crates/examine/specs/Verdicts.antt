@@ -1,83 +1,82 @@
--- The examination's steps as laws: what each test decides, with those before it, of the verdict; and what an accepted sheet's tests say
--- of its numbers.
+-- The examination in parts, as laws: a part that refuses decides the verdict, one that accepts leaves it to the rest; and what an accepted
+-- sheet's tests say of its numbers.
 use mathlib.Core.Path.{_≡_, refl, sym, ap, _∙_}
 use mathlib.Core.Bool.{Bool, true, false, not, _&&_}
-use mathlib.Core.List.{List}
+use mathlib.Core.List.{List, _++_}
 use Prim.Native.Nat.{ℕ, _+_, _*_, _≤_, _<_}
 use native.Mathlib.Omega.{arith}
 use lib.ListN.{length}
-use lib.Dec.{eqb, ltb, leb}
-use borrow.Author.Tests.{eqb-true, leb-true, ltb-true, not-true, not-false}
-use Rattle.model.specs.Load.{lengthsSum}
-use Rattle.model.specs.Sheet.{isMarked, versionOf, isShaped, maxRecords, recordCount}
+use lib.Dec.{eqb, leb}
+use borrow.Author.Tests.{eqb-true, leb-true, lt-ltb, le-ltb, not-true, not-false}
 use Rattle.model.specs.Base.{AllBytes}
-use Rattle.model.specs.BoardBytes.{clockOf, sound}
-use Rattle.model.specs.Outcome.{Lent, sizesFit, lengthsFit, faultIndex, verdict, refusalIndex}
+use Rattle.model.specs.Memory.{lengthsSum}
+use Rattle.model.specs.Sheet.{isShaped, maxRecords, recordStart, recordCount, recordsFrom, leastFaulty}
+use Rattle.model.specs.BoardBytes.{boardLength, answerLength, clockOf}
+use Rattle.model.specs.Outcome.{Lent, Row, firstRow, sheetRows, lengthsRows, boardRows, answersRows, faultIndex, recordsRows}
+use Rattle.model.specs.Outcome.{sizesFit, verdict, refusalIndex, Outcome, outcomeBy, outcome}
 use Rattle.model.specs.Laws.Places.{sizesSmall, Sized, small-sized}
-use Rattle.model.specs.Laws.Choice.{choose, if-true, if-false, parts}
+use Rattle.model.specs.Laws.Choice.{parts}
 use Rattle.model.specs.Laws.Sound.{SoundClock}
 use Rattle.model.specs.Laws.Codec.{sound-formed}
-use Rattle.model.specs.Laws.Refusal.{Acceptable, accepted-acceptable}
+use Rattle.model.specs.Laws.Rows.{orElse, row-holds, row-passes, first-append, accepts-none}
+use Rattle.model.specs.Laws.Refusal.{NoFault, FirstFault, Acceptable, accepted-acceptable, table, index}
 use Rattle.model.specs.Laws.Fits.{sound-clock}
 use Rattle.model.specs.declared.Lengths.{Lengths}
 use Rattle.model.specs.declared.Refusal.{Refusal}
 use Rattle.model.specs.declared.Refusal.the-variants.{BadMark, BadVersion, BadShape, BadLengths, UnsoundBoard, ShortAnswers, FaultyRecord}
 use Rattle.model.specs.declared.Verdict.{Verdict}
 use Rattle.model.specs.declared.Verdict.the-variants.{Accepted, Refused}
+use Rattle.examine.specs.Lent.{lending}
 
-module _ (i : Lent) where
-  pub bad-mark : not (isMarked (i .sheet)) ≡ true → Refused BadMark ≡ verdict i
-  unfolding verdict
-  bad-mark e = sym (if-true _ _ _ e)
+-- the verdict on all that is lent, in the order of the functions' parameters
+abbrev pub Examined : List ℕ → List ℕ → List ℕ → List ℕ → List ℕ → List ℕ → Lengths → Verdict → Type 0
+Examined sheet board store bios rom answers l v = v ≡ verdict (lending sheet board store bios rom answers l)
 
-  module _ (m : not (isMarked (i .sheet)) ≡ false) where
-    pub bad-version : not (eqb (versionOf (i .sheet)) 1) ≡ true → Refused BadVersion ≡ verdict i
-    unfolding verdict
-    bad-version e = sym (if-false _ _ _ m ∙ if-true _ _ _ e)
+-- ---- a table in two parts
 
-    module _ (v : not (eqb (versionOf (i .sheet)) 1) ≡ false) where
-      pub bad-shape : not (isShaped (i .sheet)) ≡ true → Refused BadShape ≡ verdict i
-      unfolding verdict
-      bad-shape e = sym (if-false _ _ _ m ∙ if-false _ _ _ v ∙ if-true _ _ _ e)
+-- the first part accepts: the rest decides
+pub passed : (xs ys : List Row) {v : Verdict} → v ≡ firstRow xs → v ≡ Accepted → firstRow (xs ++ ys) ≡ firstRow ys
+passed xs ys e a = first-append xs ys ∙ ap (λ (v : Verdict). orElse v (firstRow ys)) (sym e ∙ a)
 
-      module _ (s : not (isShaped (i .sheet)) ≡ false) where
-        pub bad-lengths : not (lengthsFit i) ≡ true → Refused BadLengths ≡ verdict i
-        unfolding verdict
-        bad-lengths e = sym (if-false _ _ _ m ∙ if-false _ _ _ v ∙ if-false _ _ _ s ∙ if-true _ _ _ e)
+-- it refuses, and so does the whole
+pub stopped : (xs ys : List Row) {v : Verdict} {q : Refusal} → v ≡ firstRow xs → v ≡ Refused q → v ≡ firstRow (xs ++ ys)
+stopped xs ys e r = r ∙ sym (first-append xs ys ∙ ap (λ (v : Verdict). orElse v (firstRow ys)) (sym e ∙ r))
 
-        module _ (l : not (lengthsFit i) ≡ false) where
-          pub unsound-board : not (sound (i .board)) ≡ true → Refused UnsoundBoard ≡ verdict i
-          unfolding verdict
-          unsound-board e = sym (if-false _ _ _ m ∙ if-false _ _ _ v ∙ if-false _ _ _ s ∙ if-false _ _ _ l ∙ if-true _ _ _ e)
+-- what is left of the run's table behind its first part, its second, and so on
+abbrev pub fromAnswers : Lent → List Row
+fromAnswers i = answersRows (recordCount (i .sheet)) (length (i .answers)) ++ recordsRows (i .sheet)
 
-          module _ (b : not (sound (i .board)) ≡ false) where
-            pub short-answers : ltb (length (i .answers)) (12 * recordCount (i .sheet)) ≡ true → Refused ShortAnswers ≡ verdict i
-            unfolding verdict
-            short-answers e =
-                sym (if-false _ _ _ m ∙ if-false _ _ _ v ∙ if-false _ _ _ s ∙ if-false _ _ _ l ∙ if-false _ _ _ b ∙ if-true _ _ _ e)
+abbrev pub fromBoard : Lent → List Row
+fromBoard i = boardRows (i .board) ++ fromAnswers i
 
-            module _ (a : ltb (length (i .answers)) (12 * recordCount (i .sheet)) ≡ false) where
-              pub faulty-record : ltb (faultIndex i) (recordCount (i .sheet)) ≡ true → Refused (FaultyRecord (faultIndex i)) ≡ verdict i
-              unfolding verdict
-              faulty-record e =
-                  sym (if-false _ _ _ m ∙ if-false _ _ _ v ∙ if-false _ _ _ s ∙ if-false _ _ _ l ∙ if-false _ _ _ b ∙ if-false _ _ _ a ∙ if-true _ _ _ e)
+abbrev pub fromLengths : Lent → List Row
+fromLengths i = lengthsRows (i .lengths) (length (i .store)) (length (i .bios)) (length (i .rom)) ++ fromBoard i
 
-              pub no-fault : ltb (faultIndex i) (recordCount (i .sheet)) ≡ false → Accepted ≡ verdict i
-              unfolding verdict
-              no-fault e =
-                  sym (if-false _ _ _ m ∙ if-false _ _ _ v ∙ if-false _ _ _ s ∙ if-false _ _ _ l ∙ if-false _ _ _ b ∙ if-false _ _ _ a ∙ if-false _ _ _ e)
+-- ---- the row of the records, from the record that was found
+
+pub faulted : (s : List ℕ) {n k : ℕ} → n ≡ recordCount s → k ≡ leastFaulty (recordsFrom s 0 n) → k < n
+    → Refused (FaultyRecord k) ≡ firstRow (recordsRows s)
+faulted s en ek h =
+    let found = ek ∙ ap (λ (j : ℕ). leastFaulty (recordsFrom s 0 j)) en in
+    ap (λ (j : ℕ). Refused (FaultyRecord j)) found ∙ sym (row-holds _ _ (lt-ltb (faultIndex s) (recordCount s) (omega (arith, found, en))))
+
+pub faultless : (s : List ℕ) {n k : ℕ} → n ≡ recordCount s → k ≡ leastFaulty (recordsFrom s 0 n) → n ≤ k
+    → Accepted ≡ firstRow (recordsRows s)
+faultless s en ek h =
+    let found = ek ∙ ap (λ (j : ℕ). leastFaulty (recordsFrom s 0 j)) en in
+    sym (row-passes _ _ (le-ltb (faultIndex s) (recordCount s) (omega (arith, found, en))))
 
 -- ---- numbers
 
 pub record Shaped (s : List ℕ) : Type 0 where
-  pub few : recordCount s ≤ 4096
-  pub long : length s ≡ 8 + 12 * recordCount s
+  pub few : recordCount s ≤ maxRecords
+  pub long : length s ≡ recordStart (recordCount s)
 
 pub shaped : (s : List ℕ) → isShaped s ≡ true → Shaped s
 shaped s e =
     let few : leb (recordCount s) maxRecords ≡ true = search parts in
-    let long : eqb (length s) (8 + 12 * recordCount s) ≡ true = search parts in
-    record { few = leb-true (recordCount s) maxRecords few; long = eqb-true (length s) (8 + 12 * recordCount s) long }
+    let long : eqb (length s) (recordStart (recordCount s)) ≡ true = search parts in
+    record { few = leb-true (recordCount s) maxRecords few; long = eqb-true (length s) (recordStart (recordCount s)) long }
 
 pub sized : (l : Lengths) (bios rom : ℕ) → not (sizesSmall l bios rom) ≡ false → Sized l
 sized l bios rom h = small-sized l bios rom (not-false (sizesSmall l bios rom) h)
@@ -94,10 +93,10 @@ long-enough l store bios rom n e h =
 -- ---- an accepted sheet, and a refusal's index
 
 pub record Ready (i : Lent) : Type 0 where
-  pub board : length (i .board) ≡ 72
-  pub few : recordCount (i .sheet) ≤ 4096
-  pub long : length (i .sheet) ≡ 8 + 12 * recordCount (i .sheet)
-  pub room : 12 * recordCount (i .sheet) ≤ length (i .answers)
+  pub board : length (i .board) ≡ boardLength
+  pub shaped : Shaped (i .sheet)
+  pub room : answerLength * recordCount (i .sheet) ≤ length (i .answers)
+  pub records : NoFault (i .sheet)
   pub store : lengthsSum (i .lengths) ≡ length (i .store)
   pub clock : AllBytes (i .board) → SoundClock (clockOf (i .board))
 
@@ -108,40 +107,35 @@ fit-sum l store bios rom e = eqb-true (lengthsSum l) store (search parts)
 pub ready : (i : Lent) → verdict i ≡ Accepted → Ready i
 ready i e =
     let a : Acceptable i = accepted-acceptable i e in
-    let s : Shaped (i .sheet) = shaped (i .sheet) (a .shaped) in
     record {
       board = (sound-formed (i .board) (a .board)) .size;
-      few = s .few;
-      long = s .long;
+      shaped = shaped (i .sheet) (a .shaped);
       room = a .answers;
+      records = a .records;
       store = fit-sum (i .lengths) (length (i .store)) (length (i .bios)) (length (i .rom)) (a .lengths);
       clock = λ b. sound-clock (i .board) b (a .board);
     }
 
+-- a sheet that was examined has its shape
+pub sheet-shaped : (s : List ℕ) {v : Verdict} → v ≡ firstRow (sheetRows s) → v ≡ Accepted → Shaped s
+sheet-shaped s e a = shaped s (not-false (isShaped s) ((accepts-none (sheetRows s) (sym e ∙ a)) .1 .1 .0))
+
+few-faulty : (i : Lent) (k : ℕ) → verdict i ≡ Refused (FaultyRecord k) → k ≤ 4096
+unfolding outcome
+few-faulty i k e =
+    let o = ap (outcomeBy i) e in
+    let seven : (outcomeBy i (verdict i)) .number ≡ 7 = ap (λ (x : Outcome). x .number) o in
+    let d = (table i) .records .0 seven in
+    let f : FirstFault (i .sheet) ((outcomeBy i (verdict i)) .index) = (index i) .faulty-record seven in
+    let s : Shaped (i .sheet) = shaped (i .sheet) (not-false (isShaped (i .sheet)) (d .1 .1 .0)) in
+    omega (arith, f .within, ap (λ (x : Outcome). x .index) o, s .few)
+
 -- the index of a refusal is 0 or that of a record
 pub index-small : (i : Lent) (r : Refusal) → verdict i ≡ Refused r → refusalIndex r ≤ 4096
-unfolding verdict
-index-small i r =
-    choose P (not (isMarked (i .sheet))) (λ e. zero-index BadMark refl)
-    λ e₁. choose P (not (eqb (versionOf (i .sheet)) 1)) (λ e. zero-index BadVersion refl)
-    λ e₂. choose P (not (isShaped (i .sheet))) (λ e. zero-index BadShape refl)
-    λ e₃. choose P (not (lengthsFit i)) (λ e. zero-index BadLengths refl)
-    λ e₄. choose P (not (sound (i .board))) (λ e. zero-index UnsoundBoard refl)
-    λ e₅. choose P (ltb (length (i .answers)) (12 * recordCount (i .sheet))) (λ e. zero-index ShortAnswers refl)
-    λ e₆. choose P (ltb (faultIndex i) (recordCount (i .sheet)))
-    (λ e.
-    let s : Shaped (i .sheet) = shaped (i .sheet) (not-false (isShaped (i .sheet)) e₃) in
-    let k : faultIndex i < recordCount (i .sheet) = ltb-true (faultIndex i) (recordCount (i .sheet)) e in
-    let few : faultIndex i ≤ 4096 = omega (arith, s .few) in
-    λ h.
-    let same : FaultyRecord (faultIndex i) ≡ r = cc in
-    rw (← same) few)
-    (λ e h. let z : _≡_ {A = ℕ} 0 1 = cc in absurd (omega arith))
-  where
-    P : Verdict → Type 0
-    P v = v ≡ Refused r → refusalIndex r ≤ 4096
-
-    zero-index : (q : Refusal) → refusalIndex q ≡ 0 → Refused q ≡ Refused r → refusalIndex r ≤ 4096
-    zero-index q z h =
-        let same : q ≡ r = cc in
-        rw (← same) (omega arith)
+index-small i BadMark e = omega arith
+index-small i BadVersion e = omega arith
+index-small i BadShape e = omega arith
+index-small i BadLengths e = omega arith
+index-small i UnsoundBoard e = omega arith
+index-small i ShortAnswers e = omega arith
+index-small i (FaultyRecord k) e = few-faulty i k e

@@ -1,12 +1,15 @@
 // What is examined before a run: the seven refusals, in the order of document 01's table. Nothing is written here.
+use model::ANSWER_LENGTH;
 use model::Lengths;
 use model::Refusal;
+use model::VERSION;
 use model::Verdict;
 use records::sheet;
 ghost use mathlib.Core.Path.{_≡_};
-ghost use lib.ListN.{length};
+ghost use Prim.Native.Nat.{_≤_};
+ghost use Rattle.model.specs.Sheet.{maxRecords};
 ghost use Rattle.model.specs.Outcome as def;
-ghost use Rattle.examine.specs.Lending.{lending};
+ghost use Rattle.examine.specs.Verdicts.{Shaped, Examined};
 
 // No memory is longer than its physical size, and the seven add up to the store. Each is tested before they are added, so
 // that no sum wraps.
@@ -35,7 +38,67 @@ fn lengths_fit(lengths: Lengths, store: usize, bios: usize, rom: usize) -> bool
         == store
 }
 
-// The first condition met.
+// ---- the rows of the table, in parts: what another operation examines is another choice of these
+
+// Mark, version and shape.
+pub fn examine_sheet(sheet: &[u8]) -> Verdict
+    ensures { λ r. ⌜ r ≡ def.firstRow (def.sheetRows (now (sheet .entry))) ⌝ }
+{
+    if !sheet::is_marked(sheet) {
+        return Verdict::Refused(Refusal::BadMark);
+    }
+    if sheet::version_of(sheet) != VERSION {
+        return Verdict::Refused(Refusal::BadVersion);
+    }
+    if !sheet::is_shaped(sheet) {
+        return Verdict::Refused(Refusal::BadShape);
+    }
+    Verdict::Accepted
+}
+
+pub fn examine_lengths(lengths: Lengths, store: usize, bios: usize, rom: usize) -> Verdict
+    ensures { λ r. ⌜ r ≡ def.firstRow (def.lengthsRows lengths store bios rom) ⌝ }
+{
+    if !lengths_fit(lengths, store, bios, rom) {
+        return Verdict::Refused(Refusal::BadLengths);
+    }
+    Verdict::Accepted
+}
+
+pub fn examine_board(board: &[u8]) -> Verdict
+    ensures { λ r. ⌜ r ≡ def.firstRow (def.boardRows (now (board .entry))) ⌝ }
+{
+    if !board::is_sound(board) {
+        return Verdict::Refused(Refusal::UnsoundBoard);
+    }
+    Verdict::Accepted
+}
+
+// Room for the answers of n records.
+pub fn examine_answers(n: usize, answers: usize) -> Verdict
+    requires { ⌜ n ≤ maxRecords ⌝ }
+    ensures { λ r. ⌜ r ≡ def.firstRow (def.answersRows n answers) ⌝ }
+{
+    if answers < ANSWER_LENGTH * n {
+        return Verdict::Refused(Refusal::ShortAnswers);
+    }
+    Verdict::Accepted
+}
+
+// The records of a sheet that has its shape.
+pub fn examine_records(sheet: &[u8]) -> Verdict
+    requires { ⌜ Shaped (now sheet) ⌝ }
+    ensures { λ r. ⌜ r ≡ def.firstRow (def.recordsRows (now (sheet .entry))) ⌝ }
+{
+    let n = sheet::record_count(sheet);
+    let k = sheet::least_faulty(sheet, n);
+    if k < n {
+        return Verdict::Refused(Refusal::FaultyRecord(k));
+    }
+    Verdict::Accepted
+}
+
+// The first row of the run's table that holds.
 pub fn examine(
     sheet: &[u8],
     board: &[u8],
@@ -45,32 +108,25 @@ pub fn examine(
     answers: &[u8],
     lengths: Lengths,
 ) -> Verdict
-    ensures { λ r. ⌜ r ≡ def.verdict (lending (now (sheet .entry)) (now (board .entry)) (now (store .entry)) (now (bios .entry)) (now (rom .entry)) (now (answers .entry)) lengths) ⌝ }
+    ensures { λ r. ⌜ Examined (now (sheet .entry)) (now (board .entry)) (now (store .entry)) (now (bios .entry)) (now (rom .entry)) (now (answers .entry)) lengths r ⌝ }
 {
-    if !sheet::is_marked(sheet) {
-        return Verdict::Refused(Refusal::BadMark);
-    }
-    if sheet::version_of(sheet) != 1 {
-        return Verdict::Refused(Refusal::BadVersion);
-    }
-    if !sheet::is_shaped(sheet) {
-        return Verdict::Refused(Refusal::BadShape);
-    }
-    if !lengths_fit(lengths, store.len(), bios.len(), rom.len()) {
-        return Verdict::Refused(Refusal::BadLengths);
-    }
-    if !board::is_sound(board) {
-        return Verdict::Refused(Refusal::UnsoundBoard);
-    }
-    let n = sheet::record_count(sheet);
-    if answers.len() < 12 * n {
-        return Verdict::Refused(Refusal::ShortAnswers);
-    }
-    let k = sheet::least_faulty(sheet, n);
-    if k < n {
-        return Verdict::Refused(Refusal::FaultyRecord(k));
-    }
-    Verdict::Accepted
+    let shape = examine_sheet(sheet);
+    let Verdict::Accepted = shape else {
+        return shape;
+    };
+    let sizes = examine_lengths(lengths, store.len(), bios.len(), rom.len());
+    let Verdict::Accepted = sizes else {
+        return sizes;
+    };
+    let sound = examine_board(board);
+    let Verdict::Accepted = sound else {
+        return sound;
+    };
+    let room = examine_answers(sheet::record_count(sheet), answers.len());
+    let Verdict::Accepted = room else {
+        return room;
+    };
+    examine_records(sheet)
 }
 
 // Document 01's number of a refusal.

@@ -1,9 +1,12 @@
-// Numbers in little-endian bytes, read from a slice and written to one.
+// Numbers in little-endian bytes, read from a slice and written to one. What a program calls is total: past the end of the
+// bytes it reads 0. The readers and writers of fixed width leave the lengths to their callers, who test them once.
 ghost use mathlib.Core.Path.{_≡_};
 ghost use mathlib.Core.List.{_++_};
 ghost use Prim.Native.Nat.{_+_, _*_, _≤_};
 ghost use lib.ListN.{length};
 ghost use Rattle.model.specs.Base as def;
+
+// ---- read at any place
 
 // A byte; 0 past the end.
 pub fn byte_at(s: &[u8], at: usize) -> u8
@@ -12,11 +15,34 @@ pub fn byte_at(s: &[u8], at: usize) -> u8
     if at < s.len() { s[at] } else { 0 }
 }
 
+// The halfword of two bytes.
 pub fn half(a: u8, b: u8) -> u16
     ensures { λ r. ⌜ r ≡ a + 256 * b ⌝ }
 {
     a as u16 + 256 * b as u16
 }
+
+// A halfword; its bytes past the end are 0.
+pub fn half_at(s: &[u8], at: usize) -> u16
+    ensures { λ r. ⌜ r ≡ def.number 2 (now (s .entry)) at ⌝ }
+{
+    if s.len() <= at {
+        return 0;
+    }
+    half(byte_at(s, at), byte_at(s, at + 1))
+}
+
+// A word; its bytes past the end are 0.
+pub fn word_at(s: &[u8], at: usize) -> u32
+    ensures { λ r. ⌜ r ≡ def.number 4 (now (s .entry)) at ⌝ }
+{
+    if s.len() <= at {
+        return 0;
+    }
+    half_at(s, at) as u32 + 0x1_0000 * half_at(s, at + 2) as u32
+}
+
+// ---- read where the bytes stand
 
 pub fn read16(s: &[u8], at: usize) -> u16
     requires { ⌜ at + 2 ≤ length (now s) ⌝ }
@@ -38,6 +64,8 @@ pub fn read64(s: &[u8], at: usize) -> u64
 {
     read32(s, at) as u64 + 0x1_0000_0000 * read32(s, at + 4) as u64
 }
+
+// ---- written
 
 // A flag's byte.
 pub fn bit(b: bool) -> u8

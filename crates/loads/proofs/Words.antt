@@ -1,37 +1,31 @@
--- A word of one memory: the place that it is read at, by the part that the memory is; its number, by the part that was lent; and the
--- load that its low bytes are. Assumes nothing.
+-- A word that stands in one memory: its number by the part that was lent, its low bytes by their mask, and the aligned load that they
+-- are. Assumes nothing.
 use mathlib.Core.Path.{_≡_, refl, _∙_, ap, sym}
-use mathlib.Core.Bool.{Bool, true, _&&_}
+use mathlib.Core.Bool.{false, false≢true}
 use mathlib.Core.List.{List}
-use Prim.Native.Nat.{ℕ, zero, suc, _+_, _-_, _%_, _^_, _≤_, _<_, min}
-use native.Mathlib.Nat.{add-assoc}
+use Prim.Native.Nat.{ℕ, zero, suc, _+_, _-_, _%_, _^_, _≤_, _<_}
+use native.Mathlib.Nat.{add-assoc, zero-add}
 use native.Mathlib.Omega.{arith}
-use lib.ListN.{take, drop}
+use lib.ListN.{length, take, drop}
 use lib.Bits.{bitAnd, and-mask}
-use lib.Dec.{leb}
+use lib.Dec.{ltb}
 use lib.Seq.{getD-take, getD-drop}
-use borrow.Author.Tests.{leb-true}
+use borrow.Author.Tests.{ltb-false}
 use Rattle.model.specs.Base.{number, AllBytes}
-use Rattle.model.specs.Region.{romSize, decode}
 use Rattle.model.specs.Mirror.{romOffset}
 use Rattle.model.specs.Wait.{sizeBytes}
-use Rattle.model.specs.Load as load
-use Rattle.model.specs.Laws.Choice.{and-true-left, and-true-right}
-use Rattle.model.specs.Laws.Window.{InRom}
-use Rattle.model.specs.Laws.Spans as spans
-use Rattle.model.specs.declared.Region.{Region}
+use Rattle.model.specs.Memory.{target}
+use Rattle.model.specs.Load.{Bus, load}
+use Rattle.model.specs.Laws.Choice.{choose}
+use Rattle.model.specs.Laws.Aligned.{Rows, plain-rows, video-rows, rom-rows, rows-load}
 use Rattle.model.specs.declared.AccessSize.{AccessSize}
 use Rattle.model.specs.declared.AccessSize.the-variants.{Byte, Half, Word}
-use Rattle.parts.specs.Part.{partOf, Stands}
-use Rattle.parts.specs.declared.Part.{Part}
-use Rattle.loads.specs.Place.{Lies}
-use Rattle.loads.specs.declared.Place.{Place}
-
--- a place in a part of the code's is one in the part that it stands for
-pub lies-in : (n : ℕ) {q : load.Part} {p : Part} {i j : ℕ} {r : Place} → Stands q p → i ≡ j → Lies (spans.placed (partOf p) n i) r
-    → Lies (spans.placed q n j) r
-lies-in n s e h =
-    record { base = h .base ∙ s .base; size = h .size ∙ ap (λ (k : ℕ). min k n) (s .size); index = h .index ∙ e }
+use Rattle.model.specs.declared.Lengths.{Lengths}
+use Rattle.model.specs.declared.Target.{Target}
+use Rattle.model.specs.declared.Target.the-variants.{Unused, SystemRom, GamePakRom, Plain, Video, Sram}
+use Rattle.loads.specs.Words.{wordAt, wordFrom}
+use Rattle.loads.specs.declared.Loaded.{Loaded}
+use Rattle.loads.specs.declared.Loaded.the-variants as loaded
 
 -- the number in bytes of the k that were lent from a on
 pub number-part : (n : ℕ) (xs : List ℕ) (a k i : ℕ) → i + n ≤ k → number n (take k (drop a xs)) i ≡ number n xs (a + i)
@@ -45,30 +39,41 @@ masked Byte w = and-mask w 8
 masked Half w = and-mask w 16
 masked Word w = and-mask w 32
 
--- the two tests of the image, as the code makes them of n bytes
-pub record Imaged (t : Bool) (i n : ℕ) : Type 0 where
-  pub window : t ≡ true
-  pub lent : i + 4 ≤ n
-  pub shown : i + 4 ≤ romSize
+-- ---- a word found is all there
 
-pub imaged : (t : Bool) (i n : ℕ) {k : ℕ} → t && leb (i + 4) k ≡ true → k ≡ min n romSize → Imaged t i n
-imaged t i n {k} h e =
-    let m : i + 4 ≤ k = leb-true (i + 4) k (and-true-right t (leb (i + 4) k) h) in
-    record { window = and-true-left t (leb (i + 4) k) h; lent = omega arith; shown = omega arith }
+pub record Stands (xs : List ℕ) (base n i w : ℕ) : Type 0 where
+  pub all : i + 4 ≤ n
+  pub word : w ≡ number 4 xs (base + i)
 
-module _ (b : load.Bus) (a : ℕ) (z : AccessSize) (fits : a < 2 ^ 32) where
-  -- the low bytes v of the word w that stands where the load's bytes do
-  word-load : {xs : List ℕ} {p w v : ℕ} → spans.Spans b a xs p → AllBytes xs → w ≡ number 4 xs p → v ≡ w % 256 ^ sizeBytes z → v ≡ load.load b z a
-  word-load {xs} {p} s k e f = f ∙ ap (λ (n : ℕ). n % 256 ^ sizeBytes z) e ∙ sym (spans.spans-load b a xs p s fits k z)
+found : (xs : List ℕ) (base n i : ℕ) {w : ℕ} → wordAt xs base n i ≡ loaded.Word w → Stands xs base n i w
+unfolding wordAt
+found xs base n i {w} =
+    choose (λ (r : Loaded). r ≡ loaded.Word w → Stands xs base n i w) (ltb n (i + 4))
+    (λ e h. let z : _≡_ {A = ℕ} 0 1 = cc in absurd (omega arith))
+    (λ e h. record { all = ltb-false n (i + 4) e; word = cc })
 
-  -- in a memory of the store, at a place that has four bytes left
-  pub place-load : {g : Region} {r : Place} {w v : ℕ} → AllBytes (b .store) → g ≡ decode a → Lies (spans.placeIn (b .lengths) a g) r
-      → r .index + 4 ≤ r .size → w ≡ number 4 (b .store) (r .base + r .index) → v ≡ w % 256 ^ sizeBytes z → v ≡ load.load b z a
-  place-load k d h m e f =
-      let q = rw d at h in
-      word-load (spans.place-spans b a fits (omega arith)) k (e ∙ ap (number 4 (b .store)) (omega arith)) f
+module _ (l : Lengths) (b : Bus) (z : AccessSize) (a : ℕ) (fits : a < 2 ^ 32) (aligned : a % sizeBytes z ≡ 0)
+    (store : AllBytes (b .store)) (rom : AllBytes (b .rom)) where
+  -- the low bytes of a word where the load's bytes stand
+  low : {xs : List ℕ} {q w : ℕ} → AllBytes xs → Rows l b a xs q → w ≡ number 4 xs q → w % 256 ^ sizeBytes z ≡ load l b z a
+  low {xs} {q} k s e = ap (λ (n : ℕ). n % 256 ^ sizeBytes z) e ∙ sym (rows-load l b a fits xs q s k z aligned)
 
-  -- in the image, with four bytes of the window left
-  pub rom-load : {i w v : ℕ} → AllBytes (b .rom) → InRom a → i ≡ romOffset a → i + 4 ≤ romSize → w ≡ number 4 (b .rom) i
-      → v ≡ w % 256 ^ sizeBytes z → v ≡ load.load b z a
-  rom-load k r h m e f = word-load (spans.rom-spans b a fits r (omega arith)) k (e ∙ ap (number 4 (b .rom)) h) f
+  by-target : (t : Target) {w : ℕ} → target l a ≡ t → wordFrom (b .rom) (b .store) a t ≡ loaded.Word w
+      → w % 256 ^ sizeBytes z ≡ load l b z a
+  by-target Unused e h = let x : _≡_ {A = ℕ} 0 1 = cc in absurd (omega arith)
+  by-target SystemRom e h = let x : _≡_ {A = ℕ} 0 1 = cc in absurd (omega arith)
+  by-target GamePakRom e h =
+      let s = found (b .rom) 0 (length (b .rom)) (romOffset a) h in
+      low rom (rom-rows l b a e) (s .word ∙ ap (number 4 (b .rom)) (zero-add (romOffset a)))
+  by-target (Plain p i) e h =
+      let s = found (b .store) (p .base) (p .size) i h in
+      low store (plain-rows l b a p i e (s .all)) (s .word)
+  by-target (Video m p i) e h =
+      let s = found (b .store) (p .base) (p .size) i h in
+      low store (video-rows l b a m p i e (s .all)) (s .word)
+  by-target (Sram p i) e h = let x : _≡_ {A = ℕ} 0 1 = cc in absurd (omega arith)
+
+  -- the word that was found has the load in its low bytes
+  pub word-loads : (t : Target) {w : ℕ} → t ≡ target l a → wordFrom (b .rom) (b .store) a t ≡ loaded.Word w
+      → w % 256 ^ sizeBytes z ≡ load l b z a
+  word-loads t e h = by-target t (sym e) h

@@ -1,9 +1,18 @@
--- The bus of the definitions, as made from what the functions are handed.
+-- What the loads are handed, as the definitions have it.
+use mathlib.Core.Path.{_≡_}
 use mathlib.Core.List.{List}
 use Prim.Native.Nat.{ℕ}
-use Rattle.model.specs.Load as load
+use lib.ListN.{length}
+use Rattle.model.specs.Memory.{lengthsSum, target}
+use Rattle.model.specs.Load.{Bus}
 use Rattle.model.specs.declared.Lengths.{Lengths}
+use Rattle.model.specs.declared.Target.{Target}
 
--- what a load sees, in the order of the functions' parameters: pc, latch, BIOS, ROM, store, lengths
-abbrev pub busFrom : ℕ → ℕ → List ℕ → List ℕ → List ℕ → Lengths → load.Bus
-busFrom p t b r s l = record { bios = b; rom = r; lengths = l; store = s; pc = p; latch = t }
+-- what a load sees, in the order of the functions' parameters
+abbrev pub bus : ℕ → ℕ → List ℕ → List ℕ → List ℕ → Bus
+bus pc latch bios rom store = record { bios = bios; rom = rom; store = store; pc = pc; latch = latch }
+
+-- the memory that an address meets, in a store of these lengths
+pub record Meets (t : Target) (l : Lengths) (a : ℕ) (store : List ℕ) : Type 0 where
+  pub memory : t ≡ target l a
+  pub whole : lengthsSum l ≡ length store

@@ -1,2 +1,2 @@
 pub mod Bus
-pub mod Place
+pub mod Words

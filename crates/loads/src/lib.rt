@@ -1,40 +1,29 @@
 // The bus's loads of 1, 2 and 4 bytes over the lent memories. Port of the loads of src/bus/mod.rs (`Bus as CpuMem`). BIOS and ROM
 // are slices of their own; the other memories are parts of one store, with their lengths beside it. The pc and the BIOS latch
-// are handed in by value.
+// are handed in by value. A load goes on from the memory that its address meets, which the caller has decoded.
 use model::AccessSize;
 use model::Lengths;
-use model::Offset;
-use model::Region;
+use model::Part;
+use model::Target;
 use openbus::OpenBusState;
 use openbus::ProtectedRead;
-use parts::Part;
 use parts::byte_in;
-use parts::read_slice;
-use region::decode;
-use region::is_sram;
-use region::mirror::ewram_offset;
-use region::mirror::io_offset;
-use region::mirror::iwram_offset;
-use region::mirror::oam_offset;
-use region::mirror::palette_offset;
+use parts::is_sram;
+use parts::target_of;
 use region::mirror::rom_offset;
-use region::mirror::sram_window_offset;
-use region::mirror::vram_offset;
+use waits::size_bytes;
 ghost use mathlib.Core.Path.{_≡_};
-ghost use Prim.Native.Nat.{_+_, _-_, _%_, _^_, _≤_, _<_, min};
+ghost use Prim.Native.Nat.{_+_, _-_, _%_, _^_, _≤_, _<_};
 ghost use lib.ListN.{length};
-ghost use Rattle.model.specs.Base.{number};
-ghost use Rattle.model.specs.Mirror.{sramOffset};
-ghost use Rattle.model.specs.Load.{lengthsSum, sramPart, biosByte, sramByte, load8, load16, load32, load};
+ghost use Rattle.model.specs.Load as def;
 ghost use Rattle.model.specs.Wait.{sizeBytes};
-ghost use Rattle.model.specs.Laws.Spans as spans;
-ghost use Rattle.loads.specs.Bus.{busFrom};
-ghost use Rattle.loads.specs.Place.{Lies};
-ghost use Rattle.parts.specs.Part.{partOf};
+ghost use Rattle.model.specs.Laws.Places.{InPart, Lies};
+ghost use Rattle.loads.specs.Bus.{bus, Meets};
+ghost use Rattle.loads.specs.Words as words;
 
 // The region has shown that the address is below the BIOS's end.
 fn read_bios8(addr: u32, pc: u32, latch: u32, bios: &[u8]) -> u8
-    ensures { λ r. ⌜ r ≡ biosByte (now (bios .entry)) pc latch addr ⌝ }
+    ensures { λ r. ⌜ r ≡ def.biosByte (now (bios .entry)) pc latch addr ⌝ }
 {
     let state = OpenBusState {
         last_bios_opcode: latch,
@@ -42,60 +31,48 @@ fn read_bios8(addr: u32, pc: u32, latch: u32, bios: &[u8]) -> u8
     let protect = openbus::bios_protect_read(pc, state);
     match protect {
         ProtectedRead::Latched(opcode) => openbus::bios_protect_byte(opcode, addr),
-        ProtectedRead::Unprotected => read_slice(bios, addr as usize),
+        ProtectedRead::Unprotected => le::byte_at(bios, addr as usize),
     }
 }
 
 // A load repeats at the chip's length; without a chip it gives 0xFF.
-fn read_sram8(addr: u32, store: &[u8], lengths: Lengths) -> u8
-    requires { ⌜ lengthsSum lengths ≡ length (now store) ⌝ }
-    ensures { λ r. ⌜ r ≡ sramByte (now (store .entry)) (sramPart lengths) (sramOffset addr) ⌝ }
+fn read_sram8(store: &[u8], part: Part, index: usize) -> u8
+    requires { ⌜ part .base + part .size ≤ length (now store) ⌝ }
+    ensures { λ r. ⌜ r ≡ def.sramByte (now (store .entry)) part index ⌝ }
 {
-    let size = lengths.sram;
+    let size = part.size;
     if size == 0 {
         return 0xFF;
     }
-    byte_in(store, parts::sram(lengths), sram_window_offset(addr) % size)
+    byte_in(store, part, index % size)
 }
 
-pub fn read8(
+// `read8`, in the memory that the address meets.
+fn read8(
+    target: Target,
     addr: u32,
     pc: u32,
     latch: u32,
     bios: &[u8],
     rom: &[u8],
     store: &[u8],
-    lengths: Lengths,
 ) -> u8
-    requires { ⌜ lengthsSum lengths ≡ length (now store) ⌝ }
-    ensures { λ r. ⌜ r ≡ load8 (busFrom pc latch (now (bios .entry)) (now (rom .entry)) (now (store .entry)) lengths) addr ⌝ }
+    requires { ⌜ Lies (length (now store)) target ⌝ }
+    ensures { λ r. ⌜ r ≡ def.byteFrom (bus pc latch (now (bios .entry)) (now (rom .entry)) (now (store .entry))) addr target ⌝ }
 {
-    let region = decode(addr);
-    match region {
-        Region::Bios => read_bios8(addr, pc, latch, bios),
-        Region::UnusedLow => 0,
-        Region::Ewram => byte_in(store, parts::ewram(lengths), ewram_offset(addr)),
-        Region::Iwram => byte_in(store, parts::iwram(lengths), iwram_offset(addr)),
-        Region::Io => {
-            let offset = io_offset(addr);
-            match offset {
-                Offset::At(index) => byte_in(store, parts::io(lengths), index),
-                Offset::Unbacked => 0,
-            }
-        }
-        Region::Palette => byte_in(store, parts::palette(lengths), palette_offset(addr)),
-        Region::Vram => byte_in(store, parts::vram(lengths), vram_offset(addr)),
-        Region::Oam => byte_in(store, parts::oam(lengths), oam_offset(addr)),
-        Region::GamePakRomWs0 => read_slice(rom, rom_offset(addr)),
-        Region::GamePakRomWs1 => read_slice(rom, rom_offset(addr)),
-        Region::GamePakRomWs2 => read_slice(rom, rom_offset(addr)),
-        Region::GamePakSram => read_sram8(addr, store, lengths),
-        Region::UnusedHigh => 0,
+    match target {
+        Target::Unused => 0,
+        Target::SystemRom => read_bios8(addr, pc, latch, bios),
+        Target::GamePakRom => le::byte_at(rom, rom_offset(addr)),
+        Target::Plain(part, index) => byte_in(store, part, index),
+        Target::Video(_memory, part, index) => byte_in(store, part, index),
+        Target::Sram(part, index) => read_sram8(store, part, index),
     }
 }
 
-// Two byte loads, each decoded by itself; SRAM repeats its one byte.
-pub fn read16(
+// `read16`: two byte loads, each decoded by itself; SRAM repeats its one byte.
+fn read16(
+    target: Target,
     addr: u32,
     pc: u32,
     latch: u32,
@@ -104,21 +81,21 @@ pub fn read16(
     store: &[u8],
     lengths: Lengths,
 ) -> u16
-    requires { ⌜ lengthsSum lengths ≡ length (now store) ⌝ }
-    ensures { λ r. ⌜ r ≡ load16 (busFrom pc latch (now (bios .entry)) (now (rom .entry)) (now (store .entry)) lengths) addr ⌝ }
+    requires { ⌜ Meets target lengths addr (now store) ⌝ }
+    ensures { λ r. ⌜ r ≡ def.load16 lengths (bus pc latch (now (bios .entry)) (now (rom .entry)) (now (store .entry))) addr ⌝ }
 {
-    let lo = read8(addr, pc, latch, bios, rom, store, lengths) as u16;
-    let region = decode(addr);
-    if is_sram(region) {
-        return 0x0101 * lo;
+    let low = read8(target, addr, pc, latch, bios, rom, store) as u16;
+    if is_sram(target) {
+        return 0x0101 * low;
     }
     let next = std::num::wrapping_add_u32(addr, 1);
-    let hi = read8(next, pc, latch, bios, rom, store, lengths) as u16;
-    lo + 0x100 * hi
+    let high = read8(target_of(next, lengths), next, pc, latch, bios, rom, store) as u16;
+    low + 0x100 * high
 }
 
-// Two halfword loads, each decoded by itself.
-pub fn read32(
+// `read32`: two halfword loads, each decoded by itself.
+fn read32(
+    target: Target,
     addr: u32,
     pc: u32,
     latch: u32,
@@ -127,124 +104,61 @@ pub fn read32(
     store: &[u8],
     lengths: Lengths,
 ) -> u32
-    requires { ⌜ lengthsSum lengths ≡ length (now store) ⌝ }
-    ensures { λ r. ⌜ r ≡ load32 (busFrom pc latch (now (bios .entry)) (now (rom .entry)) (now (store .entry)) lengths) addr ⌝ }
+    requires { ⌜ Meets target lengths addr (now store) ⌝ }
+    ensures { λ r. ⌜ r ≡ def.load32 lengths (bus pc latch (now (bios .entry)) (now (rom .entry)) (now (store .entry))) addr ⌝ }
 {
-    let region = decode(addr);
-    if is_sram(region) {
-        let b = read8(addr, pc, latch, bios, rom, store, lengths) as u32;
-        return 0x0101_0101 * b;
+    if is_sram(target) {
+        return 0x0101_0101 * read8(target, addr, pc, latch, bios, rom, store) as u32;
     }
-    let lo = read16(addr, pc, latch, bios, rom, store, lengths) as u32;
+    let low = read16(target, addr, pc, latch, bios, rom, store, lengths) as u32;
     let next = std::num::wrapping_add_u32(addr, 2);
-    let hi = read16(next, pc, latch, bios, rom, store, lengths) as u32;
-    lo + 0x1_0000 * hi
+    let other = target_of(next, lengths);
+    let high = read16(other, next, pc, latch, bios, rom, store, lengths) as u32;
+    low + 0x1_0000 * high
 }
 
-// The three, by the size.
-fn read_by_bytes(
-    size: AccessSize,
-    addr: u32,
-    pc: u32,
-    latch: u32,
-    bios: &[u8],
-    rom: &[u8],
-    store: &[u8],
-    lengths: Lengths,
-) -> u32
-    requires { ⌜ lengthsSum lengths ≡ length (now store) ⌝ }
-    ensures { λ r. ⌜ r ≡ load (busFrom pc latch (now (bios .entry)) (now (rom .entry)) (now (store .entry)) lengths) size addr ⌝ }
+// ---- an aligned load, which lies in one memory
+
+// `Option<u32>`: the word at a place, if all four bytes of it stand in the memory.
+pub enum Loaded {
+    Word(u32),
+    Apart,
+}
+
+fn word_in(store: &[u8], part: Part, index: usize) -> Loaded
+    requires { ⌜ InPart (length (now store)) part index ⌝ }
+    ensures { λ r. ⌜ r ≡ words.wordIn (now (store .entry)) part index ⌝ }
 {
-    match size {
-        AccessSize::Byte => read8(addr, pc, latch, bios, rom, store, lengths) as u32,
-        AccessSize::Half => read16(addr, pc, latch, bios, rom, store, lengths) as u32,
-        AccessSize::Word => read32(addr, pc, latch, bios, rom, store, lengths),
+    if part.size < index + 4 {
+        return Loaded::Apart;
     }
+    let base = part.base;
+    let end = base + part.size;
+    Loaded::Word(le::read32(&store[base..end], index))
 }
 
-// ---- a load from one memory
-
-// An index in a memory of the store: where the memory starts, how much of it its addresses show before they come round, and the
-// index.
-struct Place {
-    base: usize,
-    size: usize,
-    index: usize,
-}
-
-// `a.min(b)`.
-fn least(a: usize, b: usize) -> usize
-    ensures { λ r. ⌜ r ≡ min a b ⌝ }
+fn word_of_rom(rom: &[u8], index: usize) -> Loaded
+    requires { ⌜ index + 4 < 2 ^ 64 ⌝ }
+    ensures { λ r. ⌜ r ≡ words.wordAt (now (rom .entry)) 0 (length (now (rom .entry))) index ⌝ }
 {
-    if a <= b { a } else { b }
-}
-
-// However much is lent, addresses come round at the physical size.
-fn placed(part: Part, physical: usize, index: usize) -> Place
-    ensures { λ r. ⌜ Lies (spans.placed (partOf part) physical index) r ⌝ }
-{
-    Place {
-        base: part.base,
-        size: least(part.size, physical),
-        index,
+    if rom.len() < index + 4 {
+        return Loaded::Apart;
     }
+    Loaded::Word(le::read32(rom, index))
 }
 
-fn nowhere() -> Place
-    ensures { λ r. ⌜ Lies spans.nowhere r ⌝ }
+fn word_from(target: Target, addr: u32, rom: &[u8], store: &[u8]) -> Loaded
+    requires { ⌜ Lies (length (now store)) target ⌝ }
+    ensures { λ r. ⌜ r ≡ words.wordFrom (now (rom .entry)) (now (store .entry)) addr target ⌝ }
 {
-    Place {
-        base: 0,
-        size: 0,
-        index: 0,
+    match target {
+        Target::Unused => Loaded::Apart,
+        Target::SystemRom => Loaded::Apart,
+        Target::GamePakRom => word_of_rom(rom, rom_offset(addr)),
+        Target::Plain(part, index) => word_in(store, part, index),
+        Target::Video(_memory, part, index) => word_in(store, part, index),
+        Target::Sram(_part, _index) => Loaded::Apart,
     }
-}
-
-// The memories that have their bytes one after the other. I/O has gaps, SRAM comes round at the chip's length and repeats a byte,
-// a BIOS load may give the latch; ROM is no part of the store.
-fn place_of(region: Region, addr: u32, lengths: Lengths) -> Place
-    requires { ⌜ lengthsSum lengths < 2 ^ 64 ⌝ }
-    ensures { λ r. ⌜ Lies (spans.placeIn lengths addr region) r ⌝ }
-{
-    match region {
-        Region::Bios => nowhere(),
-        Region::UnusedLow => nowhere(),
-        Region::Ewram => placed(
-            parts::ewram(lengths),
-            region::EWRAM_SIZE,
-            ewram_offset(addr),
-        ),
-        Region::Iwram => placed(
-            parts::iwram(lengths),
-            region::IWRAM_SIZE,
-            iwram_offset(addr),
-        ),
-        Region::Io => nowhere(),
-        Region::Palette => placed(
-            parts::palette(lengths),
-            region::PALETTE_SIZE,
-            palette_offset(addr),
-        ),
-        Region::Vram => placed(parts::vram(lengths), region::VRAM_SIZE, vram_offset(addr)),
-        Region::Oam => placed(parts::oam(lengths), region::OAM_SIZE, oam_offset(addr)),
-        Region::GamePakRomWs0 => nowhere(),
-        Region::GamePakRomWs1 => nowhere(),
-        Region::GamePakRomWs2 => nowhere(),
-        Region::GamePakSram => nowhere(),
-        Region::UnusedHigh => nowhere(),
-    }
-}
-
-// The word at a place that has four bytes left.
-fn word_in(store: &[u8], place: Place) -> u32
-    requires { ⌜ place .index + 4 ≤ place .size ⌝ }
-    requires { ⌜ place .base + place .size ≤ length (now store) ⌝ }
-    ensures { λ r. ⌜ r ≡ number 4 (now (store .entry)) (place .base + place .index) ⌝ }
-{
-    let base = place.base;
-    let end = base + place.size;
-    let index = place.index;
-    le::read32(&store[base..end], index)
 }
 
 // The mask of as many low bytes as the size has. It is looked up, where a remainder for each size would be a branch.
@@ -264,10 +178,10 @@ fn low_bytes(size: AccessSize, word: u32) -> u32
     word & low_mask(size)
 }
 
-// A load of any size. Where the four bytes from the address on stand in one memory, it is part of the word there, which saves a
-// decoding for each byte.
-pub fn read(
+// By bytes, each decoded by itself, as the Rust does it.
+fn read_apart(
     size: AccessSize,
+    target: Target,
     addr: u32,
     pc: u32,
     latch: u32,
@@ -276,16 +190,36 @@ pub fn read(
     store: &[u8],
     lengths: Lengths,
 ) -> u32
-    requires { ⌜ lengthsSum lengths ≡ length (now store) ⌝ }
-    ensures { λ r. ⌜ r ≡ load (busFrom pc latch (now (bios .entry)) (now (rom .entry)) (now (store .entry)) lengths) size addr ⌝ }
+    requires { ⌜ Meets target lengths addr (now store) ⌝ }
+    ensures { λ r. ⌜ r ≡ def.load lengths (bus pc latch (now (bios .entry)) (now (rom .entry)) (now (store .entry))) size addr ⌝ }
 {
-    let here = place_of(decode(addr), addr, lengths);
-    if here.index + 4 <= here.size {
-        return low_bytes(size, word_in(store, here));
+    match size {
+        AccessSize::Byte => read8(target, addr, pc, latch, bios, rom, store) as u32,
+        AccessSize::Half => read16(target, addr, pc, latch, bios, rom, store, lengths) as u32,
+        AccessSize::Word => read32(target, addr, pc, latch, bios, rom, store, lengths),
     }
-    let at = rom_offset(addr);
-    if waits::in_window(addr) & (at + 4 <= least(rom.len(), region::ROM_WINDOW_SIZE)) {
-        return low_bytes(size, le::read32(rom, at));
+}
+
+// A load of any size. An aligned one whose word stands in its memory is part of that word, which saves a decoding for each byte.
+pub fn read(
+    size: AccessSize,
+    target: Target,
+    addr: u32,
+    pc: u32,
+    latch: u32,
+    bios: &[u8],
+    rom: &[u8],
+    store: &[u8],
+    lengths: Lengths,
+) -> u32
+    requires { ⌜ Meets target lengths addr (now store) ⌝ }
+    ensures { λ r. ⌜ r ≡ def.load lengths (bus pc latch (now (bios .entry)) (now (rom .entry)) (now (store .entry))) size addr ⌝ }
+{
+    if addr % size_bytes(size) == 0 {
+        let loaded = word_from(target, addr, rom, store);
+        if let Loaded::Word(word) = loaded {
+            return low_bytes(size, word);
+        }
     }
-    read_by_bytes(size, addr, pc, latch, bios, rom, store, lengths)
+    read_apart(size, target, addr, pc, latch, bios, rom, store, lengths)
 }

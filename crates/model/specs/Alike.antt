@@ -1,15 +1,19 @@
--- What demand 3 says: two sheets and two boards that are alike, the columns that two accepted runs agree in, and the limits of the total.
+-- What demand 3 says: two sheets and two boards that are alike, the answers that every accepted run gives, the limits of its total, and
+-- the columns that two such runs agree in. The claim is stated once, over outcomes.
 -- From document 01, "Demand 3".
 use mathlib.Core.Path.{_≡_}
 use mathlib.Core.Logic.{_≢_}
 use mathlib.Core.Bool.{_||_}
 use mathlib.Core.List.{List, [], _∷_, map}
 use Prim.Native.Nat.{ℕ, zero, suc, _+_, _*_, _≤_, _<_}
+use lib.ListN.{take, drop}
 use lib.Dec.{eqb}
 use Rattle.model.specs.Base.{if_then_else_, bit, sum, byteAt, number}
-use Rattle.model.specs.Sheet.{recordAt, recordCount, recordsOf}
-use Rattle.model.specs.BoardBytes.{boardLength}
-use Rattle.model.specs.Outcome.{Lent, outcome}
+use Rattle.model.specs.Step.{run, answer}
+use Rattle.model.specs.Sheet.{headerLength, recordAt, recordCount, recordsOf, stepOf, stepsOf}
+use Rattle.model.specs.BoardBytes.{boardLength, answerLength, answerBytes}
+use Rattle.model.specs.Outcome.{Lent, LentBytes, Outcome, mediaOf, firstState}
+use Rattle.model.specs.declared.Answer.{Answer}
 use Rattle.model.specs.declared.SheetRecord.{SheetRecord}
 
 -- ---- alike
@@ -24,7 +28,7 @@ pub record AlikeRecords (r s : SheetRecord) : Type 0 where
 
 -- sheets agree in bytes 0 to 7, and their records are alike
 pub record AlikeSheets (s t : List ℕ) : Type 0 where
-  pub header : (i : ℕ) → i < 8 → byteAt s i ≡ byteAt t i
+  pub header : (i : ℕ) → i < headerLength → byteAt s i ≡ byteAt t i
   pub records : (k : ℕ) → k < recordCount s → AlikeRecords (recordAt s k) (recordAt t k)
 
 -- boards agree outside bytes 20 to 35 and 40 to 67
@@ -52,16 +56,43 @@ pub record Limits (rs : List SheetRecord) (n : ℕ) : Type 0 where
 
 -- ---- the claim
 
+-- answer k as demand 2's definitions have it: that of step k, in the state that the first k steps leave
+unfoldable pub answerAt : Lent → ℕ → Answer
+answerAt i k =
+    answer (mediaOf i) ((run (mediaOf i) (firstState i) (take k (stepsOf (i .sheet)))) .state) (stepOf (recordAt (i .sheet) k))
+
+-- where answer k begins
+abbrev pub answerStart : ℕ → ℕ
+answerStart k = answerLength * k
+
+-- the numbers in the bytes of answer k are the fields of an answer
+pub record ReadBack (b : List ℕ) (k : ℕ) (x : Answer) : Type 0 where
+  pub value : number 4 b (answerStart k) ≡ x .value
+  pub cycles : number 4 b (answerStart k + 4) ≡ x .cycles
+  pub hits : byteAt b (answerStart k + 8) ≡ x .hits
+  pub count : byteAt b (answerStart k + 9) ≡ x .count
+  pub force : byteAt b (answerStart k + 10) ≡ bit (x .force)
+  pub zero-byte : byteAt b (answerStart k + 11) ≡ 0
+
 -- the cycles of n answers from number k on, as they stand in the lent answers
 abbrev pub cyclesFrom : List ℕ → ℕ → ℕ → List ℕ
 cyclesFrom b k zero = []
-cyclesFrom b k (suc n) = number 4 b (12 * k + 4) ∷ cyclesFrom b (suc k) n
+cyclesFrom b k (suc n) = number 4 b (answerStart k + 4) ∷ cyclesFrom b (suc k) n
 
-pub record Demand3 (i j : Lent) : Type 0 where
+-- what every accepted run has by itself
+pub record Accounts (i : Lent) (o : Outcome) : Type 0 where
+  -- the 12 bytes of each answer, and the numbers in them
+  pub bytes : (k : ℕ) → k < recordCount (i .sheet) → take answerLength (drop (answerStart k) (o .answers)) ≡ answerBytes (answerAt i k)
+  pub fields : LentBytes i → (k : ℕ) → k < recordCount (i .sheet) → ReadBack (o .answers) k (answerAt i k)
+  -- the total is the sum of the cycles in the answers
+  pub summed : LentBytes i → o .total ≡ sum (cyclesFrom (o .answers) 0 (recordCount (i .sheet)))
+  pub limits : Limits (recordsOf (i .sheet)) (o .total)
+
+-- what two accepted runs have whose sheets and first boards are alike
+pub record Demand3 (i j : Lent) (o p : Outcome) : Type 0 where
   -- bytes 4 to 10 of every step's answer: cycles, hits, prefetch count, force flag
   pub columns : (k at : ℕ) → k < recordCount (i .sheet) → 4 ≤ at → at ≤ 10
-      → byteAt ((outcome i) .answers) (12 * k + at) ≡ byteAt ((outcome j) .answers) (12 * k + at)
-  pub totals : (outcome i) .total ≡ (outcome j) .total
-  -- the total is the sum of the cycles in the answers
-  pub summed : (outcome i) .total ≡ sum (cyclesFrom ((outcome i) .answers) 0 (recordCount (i .sheet)))
-  pub limits : Limits (recordsOf (i .sheet)) ((outcome i) .total)
+      → byteAt (o .answers) (answerStart k + at) ≡ byteAt (p .answers) (answerStart k + at)
+  pub totals : o .total ≡ p .total
+  pub one : Accounts i o
+  pub other : Accounts j p

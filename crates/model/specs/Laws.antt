@@ -1,10 +1,8 @@
 -- The theorems about the definitions, from the small to the large.
 pub mod Choice
 pub mod Rules
-pub mod Stores
-pub mod HalfStores
-pub mod Places
 pub mod Figures
+pub mod Example
 pub mod Window
 pub mod Bounds
 pub mod Tick
@@ -13,12 +11,17 @@ pub mod Sound
 pub mod SoundTest
 pub mod Beats
 pub mod Commits
-pub mod RomLoad
-pub mod Run
 pub mod Codec
-pub mod Spans
-pub mod Timing
-pub mod Refusal
+pub mod Places
+pub mod Near
+pub mod RomLoad
+pub mod Stores
+pub mod Aligned
+pub mod Run
+pub mod Times
+pub mod Values
 pub mod Limits
+pub mod Rows
+pub mod Refusal
 pub mod Fits
 pub mod Demand3

@@ -5,11 +5,12 @@ pub mod Waitcnt
 pub mod Wait
 pub mod Prefetch
 pub mod DisableBug
-pub mod Timing
+pub mod Memory
 pub mod Video
 pub mod Load
 pub mod Store
 pub mod Price
+pub mod Timing
 pub mod Step
 pub mod Sheet
 pub mod BoardBytes

@@ -1,16 +1,16 @@
 -- What the run gives back, and what it leaves: one function of all that is lent.
 -- From document 01, "What the run gives back".
 use mathlib.Core.Bool.{Bool, not, _&&_}
-use mathlib.Core.List.{List, _++_}
+use mathlib.Core.List.{List, [], _∷_, _++_}
 use Prim.Native.Nat.{ℕ, _+_, _*_}
 use lib.ListN.{length, drop}
 use lib.Dec.{eqb, ltb, leb}
 use Rattle.model.specs.Base.{if_then_else_, AllBytes}
 use Rattle.model.specs.Region.{biosSize, ewramSize, iwramSize, ioSize, paletteSize, vramSize, oamSize, romSize, sramSize}
-use Rattle.model.specs.Load.{lengthsSum}
+use Rattle.model.specs.Memory.{lengthsSum}
 use Rattle.model.specs.Step.{Media, State, Result, run, total}
-use Rattle.model.specs.Sheet.{isMarked, versionOf, isShaped, recordCount, recordsOf, stepsOf, leastFaulty}
-use Rattle.model.specs.BoardBytes.{boardOf, boardBytes, sound, answersBytes}
+use Rattle.model.specs.Sheet.{sheetVersion, isMarked, versionOf, isShaped, recordCount, recordsOf, stepsOf, leastFaulty}
+use Rattle.model.specs.BoardBytes.{answerLength, boardOf, boardBytes, sound, answersBytes}
 use Rattle.model.specs.declared.Lengths.{Lengths}
 use Rattle.model.specs.declared.Refusal.{Refusal}
 use Rattle.model.specs.declared.Refusal.the-variants.{BadMark, BadVersion, BadShape, BadLengths, UnsoundBoard, ShortAnswers, FaultyRecord}
@@ -27,10 +27,13 @@ pub record Lent : Type 0 where
   pub answers : List ℕ
   pub lengths : Lengths
 
--- what is lent are slices of bytes; the laws need it of these two
+-- what is lent are slices of bytes, as a slice of u8 is
 pub record LentBytes (i : Lent) : Type 0 where
   pub sheet : AllBytes (i .sheet)
   pub board : AllBytes (i .board)
+  pub store : AllBytes (i .store)
+  pub bios : AllBytes (i .bios)
+  pub rom : AllBytes (i .rom)
 
 -- what the caller gets and finds
 pub record Outcome : Type 0 where
@@ -41,7 +44,33 @@ pub record Outcome : Type 0 where
   pub store : List ℕ
   pub answers : List ℕ
 
--- ---- the refusals
+-- ---- the refusals: a table of rows, of which the first that holds decides
+
+-- a row: its condition, and the refusal that it makes
+pub record Row : Type 0 where
+  pub holds : Bool
+  pub refusal : Refusal
+
+abbrev pub row : Bool → Refusal → Row
+row holds r = record { holds = holds; refusal = r }
+
+-- by one row, and else by what the others say
+abbrev pub byRow : Row → Verdict → Verdict
+byRow r v = if r .holds then Refused (r .refusal) else v
+
+-- the first row that holds
+abbrev pub firstRow : List Row → Verdict
+firstRow [] = Accepted
+firstRow (r ∷ rs) = byRow r (firstRow rs)
+
+-- ---- the run's table, in parts
+
+abbrev pub sheetRows : List ℕ → List Row
+sheetRows s =
+    row (not (isMarked s)) BadMark
+    ∷ row (not (eqb (versionOf s) sheetVersion)) BadVersion
+    ∷ row (not (isShaped s)) BadShape
+    ∷ []
 
 -- no memory is longer than its physical size, and the seven add up to the store
 unfoldable pub sizesFit : Lengths → ℕ → ℕ → ℕ → Bool
@@ -50,23 +79,33 @@ sizesFit l store bios rom =
     && leb (l .palette) paletteSize && leb (l .vram) vramSize && leb (l .oam) oamSize && leb (l .sram) sramSize
     && eqb (lengthsSum l) store
 
-abbrev pub lengthsFit : Lent → Bool
-lengthsFit i = sizesFit (i .lengths) (length (i .store)) (length (i .bios)) (length (i .rom))
+abbrev pub lengthsRows : Lengths → ℕ → ℕ → ℕ → List Row
+lengthsRows l store bios rom = row (not (sizesFit l store bios rom)) BadLengths ∷ []
 
-abbrev pub faultIndex : Lent → ℕ
-faultIndex i = leastFaulty (recordsOf (i .sheet))
+abbrev pub boardRows : List ℕ → List Row
+boardRows b = row (not (sound b)) UnsoundBoard ∷ []
 
--- the first condition met, in the table's order
+abbrev pub answersRows : ℕ → ℕ → List Row
+answersRows n answers = row (ltb answers (answerLength * n)) ShortAnswers ∷ []
+
+-- the first record that breaks the record layout or the table of kinds, if one does
+abbrev pub faultIndex : List ℕ → ℕ
+faultIndex s = leastFaulty (recordsOf s)
+
+abbrev pub recordsRows : List ℕ → List Row
+recordsRows s = row (ltb (faultIndex s) (recordCount s)) (FaultyRecord (faultIndex s)) ∷ []
+
+-- in the table's order
+abbrev pub rows : Lent → List Row
+rows i =
+    sheetRows (i .sheet)
+    ++ (lengthsRows (i .lengths) (length (i .store)) (length (i .bios)) (length (i .rom))
+    ++ (boardRows (i .board)
+    ++ (answersRows (recordCount (i .sheet)) (length (i .answers))
+    ++ recordsRows (i .sheet))))
+
 unfoldable pub verdict : Lent → Verdict
-verdict i =
-    if not (isMarked (i .sheet)) then Refused BadMark
-    else if not (eqb (versionOf (i .sheet)) 1) then Refused BadVersion
-    else if not (isShaped (i .sheet)) then Refused BadShape
-    else if not (lengthsFit i) then Refused BadLengths
-    else if not (sound (i .board)) then Refused UnsoundBoard
-    else if ltb (length (i .answers)) (12 * recordCount (i .sheet)) then Refused ShortAnswers
-    else if ltb (faultIndex i) (recordCount (i .sheet)) then Refused (FaultyRecord (faultIndex i))
-    else Accepted
+verdict i = firstRow (rows i)
 
 -- document 01's number of a refusal, and its index
 abbrev pub refusalNumber : Refusal → ℕ
@@ -87,6 +126,11 @@ refusalIndex UnsoundBoard = 0
 refusalIndex ShortAnswers = 0
 refusalIndex (FaultyRecord k) = k
 
+-- a verdict's number: 0 where nothing is refused
+abbrev pub verdictNumber : Verdict → ℕ
+verdictNumber Accepted = 0
+verdictNumber (Refused r) = refusalNumber r
+
 -- ---- the outcome
 
 abbrev pub mediaOf : Lent → Media
@@ -99,7 +143,7 @@ firstState i = record { board = boardOf (i .board); store = i .store }
 unfoldable pub ran : Lent → Result
 ran i = run (mediaOf i) (firstState i) (stepsOf (i .sheet))
 
--- a refusal leaves all as lent; an accepted run writes board, store and the first 12 · n bytes of the answers
+-- a refusal leaves all as lent; an accepted run writes board, store and an answer for each record
 abbrev pub outcomeBy : Lent → Verdict → Outcome
 outcomeBy i (Refused r) =
     record { number = refusalNumber r; index = refusalIndex r; total = 0; board = i .board; store = i .store; answers = i .answers }
@@ -110,7 +154,7 @@ outcomeBy i Accepted =
       total = total (ran i);
       board = boardBytes ((ran i) .state .board);
       store = (ran i) .state .store;
-      answers = answersBytes ((ran i) .answers) ++ drop (12 * recordCount (i .sheet)) (i .answers);
+      answers = answersBytes ((ran i) .answers) ++ drop (answerLength * recordCount (i .sheet)) (i .answers);
     }
 
 unfoldable pub outcome : Lent → Outcome

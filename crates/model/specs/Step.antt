@@ -1,6 +1,5 @@
--- A step, and the run over a list of steps. What a step costs, its hits and the clock it leaves are functions of the clock and
--- the step alone: no definition of time has a memory among its arguments. The memories enter only loaded values, the contents
--- of the board and the store.
+-- A step, and the run over a list of steps. A step is two records: what it does to time (`timed`), a function of the clock and the step
+-- alone, and what it does to the contents (`changed`), where the memories enter. No definition of time has a memory among its arguments.
 -- From document 01, "Records (added)", "Kind 7 (added)", "Data price (added)"; each step names the Rust calls it stands for.
 use mathlib.Core.Bool.{Bool, false, _&&_}
 use mathlib.Core.List.{List, [], _∷_, map}
@@ -10,11 +9,11 @@ use Rattle.model.specs.Base.{if_then_else_, bit, sum, further}
 use Rattle.model.specs.Waitcnt.{Waits, written, prefetchEnable, romWaits}
 use Rattle.model.specs.Wait.{window}
 use Rattle.model.specs.Prefetch.{newBuffer, setEnabled, restart, ticks, filled, hit, fetched}
-use Rattle.model.specs.Timing.{priceInsn}
 use Rattle.model.specs.Price.{dataCycles}
-use Rattle.model.specs.Video.{VideoMemory, PaletteRam, VideoRam, ObjectRam, fills}
+use Rattle.model.specs.Timing.{priceInsn}
+use Rattle.model.specs.Memory.{target}
 use Rattle.model.specs.Load.{Bus, load, load16}
-use Rattle.model.specs.Store.{Target, Dropped, Plain, Video, Sram, puts, landed, modeOf, target, halfwords, counted}
+use Rattle.model.specs.Store.{Put, puts, landed, modeOf, videoCount, counted}
 use Rattle.model.specs.declared.PrefetchBuffer.{PrefetchBuffer}
 use Rattle.model.specs.declared.TimingInput.{TimingInput}
 use Rattle.model.specs.declared.InsnCycles.{InsnCycles}
@@ -23,6 +22,10 @@ use Rattle.model.specs.declared.Contents.{Contents}
 use Rattle.model.specs.declared.Board.{Board}
 use Rattle.model.specs.declared.Lengths.{Lengths}
 use Rattle.model.specs.declared.Answer.{Answer}
+use Rattle.model.specs.declared.VideoMemory.{VideoMemory}
+use Rattle.model.specs.declared.VideoMemory.the-variants.{PaletteRam, VideoRam, ObjectRam}
+use Rattle.model.specs.declared.Target.{Target}
+use Rattle.model.specs.declared.Target.the-variants.{Unused, SystemRom, GamePakRom, Plain, Video, Sram}
 use Rattle.model.specs.declared.Windowed.{Windowed}
 use Rattle.model.specs.declared.Windowed.the-variants.{In, Outside}
 use Rattle.model.specs.declared.AccessSize.{AccessSize}
@@ -51,18 +54,18 @@ setWaitcnt c v =
 
 -- an instruction is priced with the board's switch and force flag
 abbrev pub timingInput : Clock → IsaState → ℕ → ℕ → Bool → TimingInput
-timingInput c isa a op changed =
+timingInput c isa a op jump =
     record {
       isa = isa;
       «code_addr» = a;
       «opcode_raw» = op;
-      «pc_changed» = changed;
+      «pc_changed» = jump;
       «prefetch_enabled» = c .prefetch .enabled;
       «force_fetch_n» = c .«force_next_fetch_n»;
     }
 
 abbrev pub priced : Clock → IsaState → ℕ → ℕ → Bool → InsnCycles
-priced c isa a op changed = priceInsn (timingInput c isa a op changed) (waitsOf c) (c .prefetch)
+priced c isa a op jump = priceInsn (timingInput c isa a op jump) (waitsOf c) (c .prefetch)
 
 -- its halves that the buffer has: one, or two at the address and the address + 2
 abbrev pub romHits : PrefetchBuffer → ℕ → IsaState → ℕ
@@ -91,45 +94,46 @@ codeHits c isa a = hitsIn (c .prefetch) a isa (window a)
 unfoldable pub codeFetched : Clock → IsaState → ℕ → PrefetchBuffer
 codeFetched c isa a = fetchedIn (waitsOf c) (c .prefetch) a isa (window a)
 
-abbrev pub cycles : Clock → Step → ℕ
-cycles c (Read z a) = dataCycles (c .waitcnt) z a
-cycles c (Write z a v) = dataCycles (c .waitcnt) z a
-cycles c (Waitcnt v) = 0
-cycles c (Idle n) = n
-cycles c (Fetch a) = 0
-cycles c (Restart a) = 0
-cycles c (Instruction isa a op changed) = (priced c isa a op changed) .total
-cycles c (Pc a) = 0
-cycles c (Latch v) = 0
-
--- the halfwords taken from the buffer
-abbrev pub hits : Clock → Step → ℕ
-hits c (Read z a) = 0
-hits c (Write z a v) = 0
-hits c (Waitcnt v) = 0
-hits c (Idle n) = 0
-hits c (Fetch a) = bit (hit (c .prefetch) a)
-hits c (Restart a) = 0
-hits c (Instruction isa a op changed) = codeHits c isa a
-hits c (Pc a) = 0
-hits c (Latch v) = 0
-
--- kind 7: price, fetches, restart, idle cycles, force flag, in this order
-abbrev pub clockAfter : Clock → Step → Clock
-clockAfter c (Read z a) = c
-clockAfter c (Write z a v) = c
-clockAfter c (Waitcnt v) = setWaitcnt c v
-clockAfter c (Idle n) = withPrefetch c (ticks (waitsOf c) n (c .prefetch))
-clockAfter c (Fetch a) = withPrefetch c (fetched (c .prefetch) a)
-clockAfter c (Restart a) = withPrefetch c (restart (waitsOf c) (c .prefetch) a)
-clockAfter c (Instruction isa a op changed) =
+-- the clock after an instruction is priced and fetched: the force flag is what it leaves to the next
+unfoldable pub codeClock : Clock → IsaState → ℕ → ℕ → Bool → Clock
+codeClock c isa a op jump =
     record {
       waitcnt = c .waitcnt;
-      «force_next_fetch_n» = (priced c isa a op changed) .«latch_disable_bug»;
-      prefetch = ticks (waitsOf c) ((priced c isa a op changed) .«cart_idle») (codeFetched c isa a);
+      «force_next_fetch_n» = (priced c isa a op jump) .«latch_disable_bug»;
+      prefetch = codeFetched c isa a;
     }
-clockAfter c (Pc a) = c
-clockAfter c (Latch v) = c
+
+-- ---- a step in time
+
+-- what a step does to time: the clock up to its idle cycles, how many of these follow, what it costs, and the halfwords that it takes
+-- from the buffer
+pub record Timed : Type 0 where
+  pub clock : Clock
+  pub idle : ℕ
+  pub cycles : ℕ
+  pub hits : ℕ
+
+abbrev pub timing : Clock → ℕ → ℕ → ℕ → Timed
+timing c idle cycles hits = record { clock = c; idle = idle; cycles = cycles; hits = hits }
+
+abbrev pub timed : Clock → Step → Timed
+timed c (Read z a) = timing c 0 (dataCycles (c .waitcnt) z a) 0
+timed c (Write z a v) = timing c 0 (dataCycles (c .waitcnt) z a) 0
+timed c (Waitcnt v) = timing (setWaitcnt c v) 0 0 0
+timed c (Idle n) = timing c n n 0
+timed c (Fetch a) = timing (withPrefetch c (fetched (c .prefetch) a)) 0 0 (bit (hit (c .prefetch) a))
+timed c (Restart a) = timing (withPrefetch c (restart (waitsOf c) (c .prefetch) a)) 0 0 0
+timed c (Instruction isa a op jump) =
+    timing (codeClock c isa a op jump) ((priced c isa a op jump) .«cart_idle») ((priced c isa a op jump) .total) (codeHits c isa a)
+timed c (Pc a) = timing c 0 0 0
+timed c (Latch v) = timing c 0 0 0
+
+-- the clock with a step's idle cycles behind it
+abbrev pub idled : Timed → Clock
+idled t = withPrefetch (t .clock) (ticks (waitsOf (t .clock)) (t .idle) (t .clock .prefetch))
+
+abbrev pub clockAfter : Clock → Step → Clock
+clockAfter c x = idled (timed c x)
 
 -- ---- the contents of the board and the memories
 
@@ -149,7 +153,6 @@ busOf m s =
     record {
       bios = m .bios;
       rom = m .rom;
-      lengths = m .lengths;
       store = s .store;
       pc = s .board .contents .«cpu_pc»;
       latch = s .board .contents .«last_bios_opcode»;
@@ -158,33 +161,6 @@ busOf m s =
 -- the halfword that an opcode fetch finds, 0 on a miss
 unfoldable pub halfAt : Board → ℕ → ℕ
 halfAt b a = if hit (b .clock .prefetch) a then getD (b .halves) (b .clock .prefetch .head) 0 else 0
-
-abbrev pub value : Media → State → Step → ℕ
-value m s (Read z a) = load (busOf m s) z a
-value m s (Write z a v) = 0
-value m s (Waitcnt v) = 0
-value m s (Idle n) = 0
-value m s (Fetch a) = halfAt (s .board) a
-value m s (Restart a) = 0
-value m s (Instruction isa a op changed) = (priced (s .board .clock) isa a op changed) .«cart_idle»
-value m s (Pc a) = 0
-value m s (Latch v) = 0
-
--- the halfwords after n idle cycles from a buffer; the prefetch reads with the bus's halfword load
-abbrev pub refilled : Media → State → ℕ → PrefetchBuffer → List ℕ
-refilled m s n p = filled (load16 (busOf m s)) (waitsOf (s .board .clock)) n p (s .board .halves)
-
-abbrev pub halvesAfter : Media → State → Step → List ℕ
-halvesAfter m s (Read z a) = s .board .halves
-halvesAfter m s (Write z a v) = s .board .halves
-halvesAfter m s (Waitcnt v) = s .board .halves
-halvesAfter m s (Idle n) = refilled m s n (s .board .clock .prefetch)
-halvesAfter m s (Fetch a) = s .board .halves
-halvesAfter m s (Restart a) = s .board .halves
-halvesAfter m s (Instruction isa a op changed) =
-    refilled m s ((priced (s .board .clock) isa a op changed) .«cart_idle») (codeFetched (s .board .clock) isa a)
-halvesAfter m s (Pc a) = s .board .halves
-halvesAfter m s (Latch v) = s .board .halves
 
 abbrev pub withCounts : Contents → ℕ → ℕ → ℕ → Contents
 withCounts d vram oam palette =
@@ -202,15 +178,19 @@ countedIn PaletteRam n d = withCounts d (d .«vram_write_count») (d .«oam_writ
 countedIn VideoRam n d = withCounts d (counted (d .«vram_write_count») n) (d .«oam_write_count») (d .«palette_write_count»)
 countedIn ObjectRam n d = withCounts d (d .«vram_write_count») (counted (d .«oam_write_count») n) (d .«palette_write_count»)
 
--- a store counts in the video memory that it meets
-abbrev pub countedAt : ℕ → AccessSize → Target → Contents → Contents
-countedAt mode z Dropped d = d
-countedAt mode z (Plain p i) d = d
-countedAt mode z (Video m p i) d = countedIn m (halfwords (fills mode m i) z) d
-countedAt mode z (Sram p i) d = d
+-- to the counter of the memory that a store meets, if it has one
+abbrev pub countedAt : Target → ℕ → Contents → Contents
+countedAt Unused n d = d
+countedAt SystemRom n d = d
+countedAt GamePakRom n d = d
+countedAt (Plain p i) n d = d
+countedAt (Video m p i) n d = countedIn m n d
+countedAt (Sram p i) n d = d
 
+-- a store counts as many as `videoCount` says
 unfoldable pub countStore : Media → State → AccessSize → ℕ → Contents
-countStore m s z a = countedAt (modeOf (m .lengths) (s .store)) z (target (m .lengths) a) (s .board .contents)
+countStore m s z a =
+    countedAt (target (m .lengths) a) (videoCount (modeOf (m .lengths) (s .store)) z (target (m .lengths) a)) (s .board .contents)
 
 abbrev pub withPc : Contents → ℕ → Contents
 withPc d a =
@@ -232,47 +212,63 @@ withLatch d v =
       «palette_write_count» = d .«palette_write_count»;
     }
 
-abbrev pub contentsAfter : Media → State → Step → Contents
-contentsAfter m s (Read z a) = s .board .contents
-contentsAfter m s (Write z a v) = countStore m s z a
-contentsAfter m s (Waitcnt v) = s .board .contents
-contentsAfter m s (Idle n) = s .board .contents
-contentsAfter m s (Fetch a) = s .board .contents
-contentsAfter m s (Restart a) = s .board .contents
-contentsAfter m s (Instruction isa a op changed) = s .board .contents
-contentsAfter m s (Pc a) = withPc (s .board .contents) a
-contentsAfter m s (Latch v) = withLatch (s .board .contents) v
+-- ---- a step in data
 
-abbrev pub storeAfter : Media → State → Step → List ℕ
-storeAfter m s (Read z a) = s .store
-storeAfter m s (Write z a v) = landed (s .store) (puts (m .lengths) (modeOf (m .lengths) (s .store)) z a v)
-storeAfter m s (Waitcnt v) = s .store
-storeAfter m s (Idle n) = s .store
-storeAfter m s (Fetch a) = s .store
-storeAfter m s (Restart a) = s .store
-storeAfter m s (Instruction isa a op changed) = s .store
-storeAfter m s (Pc a) = s .store
-storeAfter m s (Latch v) = s .store
+-- what a step does to the contents: the value it answers, the contents it leaves, and the bytes of its store that land
+pub record Changed : Type 0 where
+  pub value : ℕ
+  pub contents : Contents
+  pub puts : List Put
+
+abbrev pub change : ℕ → Contents → List Put → Changed
+change v d ps = record { value = v; contents = d; puts = ps }
+
+-- a step that leaves the contents alone
+abbrev pub answering : State → ℕ → Changed
+answering s v = change v (s .board .contents) []
+
+abbrev pub changed : Media → State → Step → Changed
+changed m s (Read z a) = answering s (load (m .lengths) (busOf m s) z a)
+changed m s (Write z a v) = change 0 (countStore m s z a) (puts (m .lengths) (modeOf (m .lengths) (s .store)) z a v)
+changed m s (Waitcnt v) = answering s 0
+changed m s (Idle n) = answering s 0
+changed m s (Fetch a) = answering s (halfAt (s .board) a)
+changed m s (Restart a) = answering s 0
+changed m s (Instruction isa a op jump) = answering s ((priced (s .board .clock) isa a op jump) .«cart_idle»)
+changed m s (Pc a) = change 0 (withPc (s .board .contents) a) []
+changed m s (Latch v) = change 0 (withLatch (s .board .contents) v) []
+
+-- the halfwords after a step's idle cycles; the prefetch reads with the bus's halfword load
+abbrev pub refilled : Media → State → Timed → List ℕ
+refilled m s t =
+    filled (load16 (m .lengths) (busOf m s)) (waitsOf (t .clock)) (t .idle) (t .clock .prefetch) (s .board .halves)
 
 -- ---- a step, and a run
 
+abbrev pub boardWith : Clock → List ℕ → Contents → Board
+boardWith c h d = record { clock = c; halves = h; contents = d }
+
+-- the two sides of a step, put together
+abbrev pub joined : Media → State → Timed → Changed → State
+joined m s t d =
+    record { board = boardWith (idled t) (refilled m s t) (d .contents); store = landed (s .store) (d .puts) }
+
 abbrev pub stepped : Media → State → Step → State
-stepped m s x =
-    record {
-      board = record { clock = clockAfter (s .board .clock) x; halves = halvesAfter m s x; contents = contentsAfter m s x };
-      store = storeAfter m s x;
-    }
+stepped m s x = joined m s (timed (s .board .clock) x) (changed m s x)
 
 -- the prefetch count and the force flag are those after the step
-abbrev pub answer : Media → State → Step → Answer
-answer m s x =
+abbrev pub answerOf : Timed → Changed → Answer
+answerOf t d =
     record {
-      value = value m s x;
-      cycles = cycles (s .board .clock) x;
-      hits = hits (s .board .clock) x;
-      count = (clockAfter (s .board .clock) x) .prefetch .count;
-      force = (clockAfter (s .board .clock) x) .«force_next_fetch_n»;
+      value = d .value;
+      cycles = t .cycles;
+      hits = t .hits;
+      count = (idled t) .prefetch .count;
+      force = (idled t) .«force_next_fetch_n»;
     }
+
+abbrev pub answer : Media → State → Step → Answer
+answer m s x = answerOf (timed (s .board .clock) x) (changed m s x)
 
 -- the answers of a run, and what it leaves
 pub record Result : Type 0 where

@@ -2,12 +2,14 @@
 -- From GBATEK, "ARM CPU Instruction Cycle Times" and "GBA GamePak Prefetch"; src/cpu/timing.rs; document 01, "cpu/timing.rs".
 -- Departures: branches and stores have no extra or nonsequential fetch, and data cycles are steps of their own.
 use mathlib.Core.Bool.{Bool}
+use mathlib.Core.List.{List, [], _∷_}
 use Prim.Native.Nat.{ℕ, _+_, _%_}
 use lib.Dec.{eqb}
 use Rattle.model.specs.Base.{if_then_else_, bit, further}
 use Rattle.model.specs.Region.{page}
 use Rattle.model.specs.Waitcnt.{Waits}
-use Rattle.model.specs.Wait.{nonseqIf, window, inWindow, romHalfCyclesAt, ewramCycles, fixedFastCycles}
+use Rattle.model.specs.Wait.{nonseqIf, window, inWindow, kindAt}
+use Rattle.model.specs.Price.{Beat, BufferBeat, RomBeat, EwramBeat, FastBeat, beatCycles, price}
 use Rattle.model.specs.Prefetch.{hit}
 use Rattle.model.specs.DisableBug.{armInternal, thumbInternal, forceNextFetchNonseq}
 use Rattle.model.specs.declared.PrefetchBuffer.{PrefetchBuffer}
@@ -32,35 +34,39 @@ abbrev pub codeSize : IsaState → AccessSize
 codeSize Arm = Word
 codeSize Thumb = Half
 
--- one half from ROM: 1 if the buffer's head is at its address, else by the address as given, under the rule of 0x20000
-unfoldable pub romHalf : Waits → PrefetchBuffer → ℕ → RomWindow → AccessKind → ℕ
-romHalf t p a win k = if hit p a then 1 else romHalfCyclesAt t a win k
+-- ---- the beats of a fetch
+
+-- one half from ROM: from the buffer if its head is at its address, else by the address as given, under the rule of 0x20000
+unfoldable pub halfBeat : PrefetchBuffer → ℕ → RomWindow → AccessKind → Beat
+halfBeat p a win k = if hit p a then BufferBeat else RomBeat win (kindAt a k)
 
 -- an ARM opcode is two halves, the second sequential.
 -- Departures: both halves look at one head, so that at most one is a hit; the second is priced by the first one's window.
-abbrev pub romFetch : Waits → PrefetchBuffer → ℕ → RomWindow → AccessKind → IsaState → ℕ
-romFetch t p a win k Thumb = romHalf t p a win k
-romFetch t p a win k Arm = romHalf t p a win k + romHalf t p (further 2 a) win Seq
+abbrev pub romBeats : PrefetchBuffer → ℕ → RomWindow → AccessKind → IsaState → List Beat
+romBeats p a win k Thumb = halfBeat p a win k ∷ []
+romBeats p a win k Arm = halfBeat p a win k ∷ halfBeat p (further 2 a) win Seq ∷ []
 
--- outside ROM: EWRAM's cycles on page 2, else 1. Departure: code in palette, VRAM or SRAM costs more.
-unfoldable pub plainFetch : ℕ → IsaState → ℕ
-plainFetch a isa = if eqb (page a) 0x02 then ewramCycles (codeSize isa) else fixedFastCycles
+-- outside ROM a fetch is one beat: EWRAM's on page 2, else a fast one. Departure: code in palette, VRAM or SRAM costs more.
+unfoldable pub plainBeat : ℕ → IsaState → Beat
+plainBeat a isa = if eqb (page a) 0x02 then EwramBeat (codeSize isa) else FastBeat
 
-abbrev pub fetchIn : Waits → PrefetchBuffer → ℕ → AccessKind → IsaState → Windowed → ℕ
-fetchIn t p a k isa (In win) = romFetch t p a win k isa
-fetchIn t p a k isa Outside = plainFetch a isa
+abbrev pub fetchBeatsIn : PrefetchBuffer → ℕ → AccessKind → IsaState → Windowed → List Beat
+fetchBeatsIn p a k isa (In win) = romBeats p a win k isa
+fetchBeatsIn p a k isa Outside = plainBeat a isa ∷ []
 
 -- departure: a fetch is sequential unless the force flag is set, after a jump too
-unfoldable pub fetchCycles : Waits → PrefetchBuffer → Bool → IsaState → ℕ → ℕ
-fetchCycles t p force isa a = fetchIn t p a (nonseqIf force) isa (window a)
+unfoldable pub fetchBeats : PrefetchBuffer → Bool → IsaState → ℕ → List Beat
+fetchBeats p force isa a = fetchBeatsIn p a (nonseqIf force) isa (window a)
 
-abbrev pub idleIn : ℕ → IsaState → Windowed → ℕ
-idleIn a isa (In win) = 0
-idleIn a isa Outside = plainFetch a isa
+-- ---- the price of an instruction
 
 -- the cycles in which the cartridge bus is free: a fetch outside ROM, and the internal cycle
-unfoldable pub cartIdle : IsaState → ℕ → ℕ → ℕ
-cartIdle isa a raw = idleIn a isa (window a) + bit (internal isa raw)
+abbrev pub idleIn : Waits → ℕ → IsaState → Windowed → ℕ
+idleIn t a isa (In win) = 0
+idleIn t a isa Outside = beatCycles t (plainBeat a isa)
+
+unfoldable pub cartIdle : Waits → IsaState → ℕ → ℕ → ℕ
+cartIdle t isa a raw = idleIn t a isa (window a) + bit (internal isa raw)
 
 unfoldable pub disableBug : Bool → IsaState → ℕ → ℕ → Bool → Bool
 disableBug on isa a raw changed = forceNextFetchNonseq on (inWindow a) (internal isa raw) changed
@@ -68,9 +74,9 @@ disableBug on isa a raw changed = forceNextFetchNonseq on (inWindow a) (internal
 unfoldable pub priceInsn : TimingInput → Waits → PrefetchBuffer → InsnCycles
 priceInsn i t p =
     record {
-      total = fetchCycles t p (i .«force_fetch_n») (i .isa) (i .«code_addr») + bit (internal (i .isa) (i .«opcode_raw»));
+      total = price t (fetchBeats p (i .«force_fetch_n») (i .isa) (i .«code_addr»)) + bit (internal (i .isa) (i .«opcode_raw»));
       internal = bit (internal (i .isa) (i .«opcode_raw»));
-      «cart_idle» = cartIdle (i .isa) (i .«code_addr») (i .«opcode_raw»);
+      «cart_idle» = cartIdle t (i .isa) (i .«code_addr») (i .«opcode_raw»);
       «latch_disable_bug» = disableBug (i .«prefetch_enabled») (i .isa) (i .«code_addr») (i .«opcode_raw») (i .«pc_changed»);
       «fetch_kind» = nonseqIf (i .«force_fetch_n»);
     }

@@ -4,10 +4,8 @@ use mathlib.Core.Bool.{Bool, true, false, not}
 use Prim.Native.Nat.{ℕ}
 use lib.Dec.{leb}
 use Rattle.model.specs.Base.{if_then_else_}
-
--- the three memories on the video bus, each with a counter of its own on the board
-pub data VideoMemory : Type 0 where
-  PaletteRam VideoRam ObjectRam : VideoMemory
+use Rattle.model.specs.declared.VideoMemory.{VideoMemory}
+use Rattle.model.specs.declared.VideoMemory.the-variants.{PaletteRam, VideoRam, ObjectRam}
 
 -- where object VRAM starts, by the display mode; departure: GBATEK forbids modes 6 and 7, which act as 3 to 5 here
 unfoldable pub objVramBase : ℕ → ℕ

@@ -221,6 +221,8 @@ impl Board {
     }
 }
 
+// ---- added: the memories
+
 // The lengths of the seven memories of the lent store, in its order.
 pub struct Lengths {
     pub ewram: usize,
@@ -231,6 +233,35 @@ pub struct Lengths {
     pub oam: usize,
     pub sram: usize,
 }
+
+// Where a memory starts in the lent store, and how long it is.
+pub struct Part {
+    pub base: usize,
+    pub size: usize,
+}
+
+// The three memories on the video bus, each with a counter of its own on the board.
+pub enum VideoMemory {
+    PaletteRam,
+    VideoRam,
+    ObjectRam,
+}
+
+// The memory that an address meets, and the place in it. An access is decoded to one of these once; loads, stores and counters
+// go on from there.
+pub enum Target {
+    // Unused areas, and I/O that nothing backs.
+    Unused,
+    SystemRom,
+    GamePakRom,
+    // EWRAM, IWRAM, I/O.
+    Plain(Part, usize),
+    Video(VideoMemory, Part, usize),
+    // The backup chip, on a bus of 8 bits.
+    Sram(Part, usize),
+}
+
+// ---- added: what a step answers
 
 pub struct Answer {
     pub value: u32,

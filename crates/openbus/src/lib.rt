@@ -4,6 +4,7 @@ ghost use Prim.Native.Nat.{_%_};
 ghost use Rattle.model.specs.Base.{byteOf};
 ghost use Rattle.openbus.specs.OpenBus as lines;
 
+// Where the BIOS ends.
 pub const BIOS_END: u32 = 0x4000;
 
 // The last opcode that was fetched from the BIOS.
@@ -12,6 +13,7 @@ pub struct OpenBusState {
 }
 
 impl OpenBusState {
+    // The latch before any opcode was fetched. Ported for completeness: nothing calls it yet.
     pub fn new() -> OpenBusState
         ensures { λ r. ⌜ r ≡ lines.latching 0 ⌝ }
     {
@@ -20,6 +22,7 @@ impl OpenBusState {
         }
     }
 
+    // The latch after a fetch from the BIOS. Ported for completeness: nothing calls it yet.
     pub fn note_bios_fetch(self, opcode: u32) -> OpenBusState
         ensures { λ r. ⌜ r ≡ lines.latching opcode ⌝ }
     {
@@ -35,12 +38,14 @@ pub enum ProtectedRead {
     Unprotected,
 }
 
+// Whether the CPU runs inside the BIOS, which may then read itself.
 pub fn pc_in_bios(pc: u32) -> bool
     ensures { λ r. ⌜ r ≡ lines.inBios pc ⌝ }
 {
     pc < BIOS_END
 }
 
+// What a load from the BIOS gives: outside of it, the last opcode fetched there.
 pub fn bios_protect_read(pc: u32, state: OpenBusState) -> ProtectedRead
     ensures { λ r. ⌜ r ≡ lines.protectedRead pc state ⌝ }
 {
@@ -58,16 +63,19 @@ pub fn bios_protect_byte(latch: u32, addr: u32) -> u8
     parts::lane(latch, addr % 4)
 }
 
+// With no cartridge the lines still hold the address, in halfwords. Ported for completeness: nothing calls it yet but
+// `empty_cart_rom_word`.
 pub fn empty_cart_rom_halfword(addr: u32) -> u16
     ensures { λ r. ⌜ r ≡ lines.emptyHalfword addr ⌝ }
 {
     (addr / 2 % 0x1_0000) as u16
 }
 
+// The same for a word. Ported for completeness: nothing calls it yet.
 pub fn empty_cart_rom_word(addr: u32) -> u32
     ensures { λ r. ⌜ r ≡ lines.emptyWord addr ⌝ }
 {
-    let lo = empty_cart_rom_halfword(addr) as u32;
-    let hi = empty_cart_rom_halfword(std::num::wrapping_add_u32(addr, 2)) as u32;
-    lo + 0x1_0000 * hi
+    let low = empty_cart_rom_halfword(addr) as u32;
+    let high = empty_cart_rom_halfword(std::num::wrapping_add_u32(addr, 2)) as u32;
+    low + 0x1_0000 * high
 }

@@ -2,15 +2,17 @@
 -- of the definitions. Assumes nothing.
 use mathlib.Core.Path.{_≡_, _∙_, ap, ap₂, sym}
 use mathlib.Core.List.{List, _++_}
-use Prim.Native.Nat.{ℕ, _+_, _-_, _≤_, _<_}
+use Prim.Native.Nat.{ℕ, _+_, _-_, _/_, _%_, _≤_, _<_}
 use native.Mathlib.Omega.{arith}
 use lib.Dec.{ltb}
 use lib.ListN.{take, drop, set, getD, take-append-drop, length-take, List·getD-eq-default}
 use lib.Seq.{take-set-le, drop-set-lt, take-set-lt, drop-set-add, set-out, getD-take, getD-drop}
 use borrow.Author.Tests.{ltb-true, ltb-false}
-use Rattle.model.specs.Load.{Part, byteIn}
-use Rattle.model.specs.Store.{Put, landed, put}
+use Rattle.model.specs.Memory.{byteIn}
+use Rattle.model.specs.Store.{Put, landed, put, putBytes}
+use Rattle.model.specs.Laws.Stores.{landed-append, putBytes-two, putBytes-four}
 use Rattle.model.specs.Laws.Choice.{choose}
+use Rattle.model.specs.declared.Part.{Part}
 
 -- the part of k bytes from a on
 abbrev partAt : ℕ → ℕ → Part
@@ -43,19 +45,38 @@ back-within xs a k i v =
     (λ e. back-set xs a k i v (ltb-true i k e))
     (λ e. back-out xs a k i v (ltb-false i k e))
 
--- a byte stored in the lent part lands; e is the part's end, and ys what the leaf left in it
-pub stored-part : (xs : List ℕ) (a e k i v : ℕ) (ys : List ℕ) → e - a ≡ k → ys ≡ set (take (e - a) (drop a xs)) i v
-    → back xs a (e - a) ys ≡ landed xs (put (partAt a k) i v)
-stored-part xs a e k i v ys h q =
-    ap (λ (l : List ℕ). back xs a (e - a) l) q
-    ∙ ap (λ (n : ℕ). back xs a n (set (take n (drop a xs)) i v)) h
-    ∙ back-within xs a k i v
+-- a byte stored in the lent part lands; ys is what the leaf left in the part
+pub stored-part : (xs : List ℕ) (p : Part) (i v : ℕ) {ys : List ℕ} → ys ≡ set (take (p .base + p .size - p .base) (drop (p .base) xs)) i v
+    → back xs (p .base) (p .base + p .size - p .base) ys ≡ landed xs (put p i v)
+stored-part xs p i v q =
+    let length-is : p .base + p .size - p .base ≡ p .size = omega arith in
+    ap (λ (l : List ℕ). back xs (p .base) (p .base + p .size - p .base) l) q
+    ∙ ap (λ (n : ℕ). back xs (p .base) n (set (take n (drop (p .base) xs)) i v)) length-is
+    ∙ back-within xs (p .base) (p .size) i v
 
 -- a byte read from the lent part
-pub part-byte : (xs : List ℕ) (a e k i : ℕ) → e - a ≡ k → getD (take (e - a) (drop a xs)) i 0 ≡ byteIn xs (partAt a k) i
+pub part-byte : (xs : List ℕ) (p : Part) (i : ℕ) → getD (take (p .base + p .size - p .base) (drop (p .base) xs)) i 0 ≡ byteIn xs p i
 unfolding byteIn
-part-byte xs a e k i h =
-    ap (λ (n : ℕ). getD (take n (drop a xs)) i 0) h
-    ∙ choose (λ (b : ℕ). getD (take k (drop a xs)) i 0 ≡ b) (ltb i k)
-    (λ t. getD-take k (drop a xs) i 0 (ltb-true i k t) ∙ getD-drop a xs i 0)
-    (λ t. List·getD-eq-default (take k (drop a xs)) 0 (omega (arith, length-take k (drop a xs), ltb-false i k t)))
+part-byte xs p i =
+    let length-is : p .base + p .size - p .base ≡ p .size = omega arith in
+    ap (λ (n : ℕ). getD (take n (drop (p .base) xs)) i 0) length-is
+    ∙ choose (λ (b : ℕ). getD (take (p .size) (drop (p .base) xs)) i 0 ≡ b) (ltb i (p .size))
+    (λ t. getD-take (p .size) (drop (p .base) xs) i 0 (ltb-true i (p .size) t) ∙ getD-drop (p .base) xs i 0)
+    (λ t. List·getD-eq-default (take (p .size) (drop (p .base) xs)) 0 (omega (arith, length-take (p .size) (drop (p .base) xs), ltb-false i (p .size) t)))
+
+-- ---- bytes that land one behind the other
+
+-- two bytes, and two pairs of them
+pub two-land : (xs : List ℕ) (p : Part) (i v : ℕ) {ys zs : List ℕ}
+    → ys ≡ landed xs (put p i (v % 256)) → zs ≡ landed ys (put p (i + 1) (v / 256 % 256)) → zs ≡ landed xs (putBytes p i 2 v)
+two-land xs p i v e f =
+    f ∙ ap (λ (l : List ℕ). landed l (put p (i + 1) (v / 256 % 256))) e
+    ∙ sym (landed-append xs (put p i (v % 256)) (put p (i + 1) (v / 256 % 256)))
+    ∙ ap (landed xs) (sym (putBytes-two p i v))
+
+pub four-land : (xs : List ℕ) (p : Part) (i v : ℕ) {ys zs : List ℕ}
+    → ys ≡ landed xs (putBytes p i 2 v) → zs ≡ landed ys (putBytes p (i + 2) 2 (v / 0x1_0000)) → zs ≡ landed xs (putBytes p i 4 v)
+four-land xs p i v e f =
+    f ∙ ap (λ (l : List ℕ). landed l (putBytes p (i + 2) 2 (v / 0x1_0000))) e
+    ∙ sym (landed-append xs (putBytes p i 2 v) (putBytes p (i + 2) 2 (v / 0x1_0000)))
+    ∙ ap (landed xs) (sym (putBytes-four p i v))

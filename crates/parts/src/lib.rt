@@ -1,13 +1,19 @@
-// The memories as parts of the one lent store, which stands for seven of the Rust's `Vec`s: where each lies, and a byte or a
-// halfword loaded from one or stored in it.
+// The memories as parts of the one lent store, which stands for seven of the Rust's `Vec`s: where each lies, which of them an
+// address meets, and bytes loaded from one or stored in it.
+use le::byte_at;
 use model::Lengths;
+use model::Offset;
+use model::Part;
+use model::Region;
+use model::Target;
+use model::VideoMemory;
+use region::mirror;
 ghost use mathlib.Core.Path.{_≡_};
-ghost use Prim.Native.Nat.{_+_, _/_, _%_, _^_, _≤_, _<_};
+ghost use Prim.Native.Nat.{_+_, _^_, _≤_, _<_};
 ghost use lib.ListN.{length, set};
-ghost use Rattle.model.specs.Base.{byteAt, byteOf};
-ghost use Rattle.model.specs.Load.{after, ewramPart, iwramPart, ioPart, palettePart, vramPart, oamPart, sramPart, lengthsSum, byteIn};
-ghost use Rattle.model.specs.Store.{landed, put, putHalf};
-ghost use Rattle.parts.specs.Part.{partOf, Stands};
+ghost use Rattle.model.specs.Base.{byteOf};
+ghost use Rattle.model.specs.Memory as def;
+ghost use Rattle.model.specs.Store.{landed, put, putBytes, putAligned};
 
 // Byte `k` of a number: what rotating it right by 8 * k brings lowest.
 pub fn lane(value: u32, k: u32) -> u8
@@ -22,18 +28,12 @@ pub fn lane(value: u32, k: u32) -> u8
     }
 }
 
-// Where a memory starts in the store, and how long it is.
-pub struct Part {
-    pub base: usize,
-    pub size: usize,
-}
-
 // ---- the seven memories, one after the other
 
 // The part of `size` bytes that follows another.
 fn after(part: Part, size: usize) -> Part
     requires { ⌜ part .base + part .size < 2 ^ 64 ⌝ }
-    ensures { λ r. ⌜ Stands (after (partOf part) size) r ⌝ }
+    ensures { λ r. ⌜ r ≡ def.after part size ⌝ }
 {
     Part {
         base: part.base + part.size,
@@ -42,7 +42,7 @@ fn after(part: Part, size: usize) -> Part
 }
 
 pub fn ewram(lengths: Lengths) -> Part
-    ensures { λ r. ⌜ Stands (ewramPart lengths) r ⌝ }
+    ensures { λ r. ⌜ r ≡ def.ewramPart lengths ⌝ }
 {
     Part {
         base: 0,
@@ -51,52 +51,122 @@ pub fn ewram(lengths: Lengths) -> Part
 }
 
 pub fn iwram(lengths: Lengths) -> Part
-    ensures { λ r. ⌜ Stands (iwramPart lengths) r ⌝ }
+    ensures { λ r. ⌜ r ≡ def.iwramPart lengths ⌝ }
 {
     after(ewram(lengths), lengths.iwram)
 }
 
 pub fn io(lengths: Lengths) -> Part
-    requires { ⌜ lengthsSum lengths < 2 ^ 64 ⌝ }
-    ensures { λ r. ⌜ Stands (ioPart lengths) r ⌝ }
+    requires { ⌜ def.lengthsSum lengths < 2 ^ 64 ⌝ }
+    ensures { λ r. ⌜ r ≡ def.ioPart lengths ⌝ }
 {
     after(iwram(lengths), lengths.io)
 }
 
 pub fn palette(lengths: Lengths) -> Part
-    requires { ⌜ lengthsSum lengths < 2 ^ 64 ⌝ }
-    ensures { λ r. ⌜ Stands (palettePart lengths) r ⌝ }
+    requires { ⌜ def.lengthsSum lengths < 2 ^ 64 ⌝ }
+    ensures { λ r. ⌜ r ≡ def.palettePart lengths ⌝ }
 {
     after(io(lengths), lengths.palette)
 }
 
 pub fn vram(lengths: Lengths) -> Part
-    requires { ⌜ lengthsSum lengths < 2 ^ 64 ⌝ }
-    ensures { λ r. ⌜ Stands (vramPart lengths) r ⌝ }
+    requires { ⌜ def.lengthsSum lengths < 2 ^ 64 ⌝ }
+    ensures { λ r. ⌜ r ≡ def.vramPart lengths ⌝ }
 {
     after(palette(lengths), lengths.vram)
 }
 
 pub fn oam(lengths: Lengths) -> Part
-    requires { ⌜ lengthsSum lengths < 2 ^ 64 ⌝ }
-    ensures { λ r. ⌜ Stands (oamPart lengths) r ⌝ }
+    requires { ⌜ def.lengthsSum lengths < 2 ^ 64 ⌝ }
+    ensures { λ r. ⌜ r ≡ def.oamPart lengths ⌝ }
 {
     after(vram(lengths), lengths.oam)
 }
 
 pub fn sram(lengths: Lengths) -> Part
-    requires { ⌜ lengthsSum lengths < 2 ^ 64 ⌝ }
-    ensures { λ r. ⌜ Stands (sramPart lengths) r ⌝ }
+    requires { ⌜ def.lengthsSum lengths < 2 ^ 64 ⌝ }
+    ensures { λ r. ⌜ r ≡ def.sramPart lengths ⌝ }
 {
     after(oam(lengths), lengths.sram)
 }
 
-// ---- a memory by itself: past its end a load gives 0 and a store is dropped
+// ---- the memory that an address meets
 
-pub fn read_slice(buf: &[u8], index: usize) -> u8
-    ensures { λ r. ⌜ r ≡ byteAt (now (buf .entry)) index ⌝ }
+// I/O has gaps.
+fn io_target(part: Part, offset: Offset) -> Target
+    ensures { λ r. ⌜ r ≡ def.ioTarget part offset ⌝ }
 {
-    if index < buf.len() { buf[index] } else { 0 }
+    match offset {
+        Offset::At(index) => Target::Plain(part, index),
+        Offset::Unbacked => Target::Unused,
+    }
+}
+
+// An address of a region that is known. This is the one place where a region is turned into a memory.
+pub fn target_in(region: Region, addr: u32, lengths: Lengths) -> Target
+    requires { ⌜ def.lengthsSum lengths < 2 ^ 64 ⌝ }
+    ensures { λ r. ⌜ r ≡ def.targetIn lengths addr region ⌝ }
+{
+    match region {
+        Region::Bios => Target::SystemRom,
+        Region::UnusedLow => Target::Unused,
+        Region::Ewram => Target::Plain(ewram(lengths), mirror::ewram_offset(addr)),
+        Region::Iwram => Target::Plain(iwram(lengths), mirror::iwram_offset(addr)),
+        Region::Io => io_target(io(lengths), mirror::io_offset(addr)),
+        Region::Palette => Target::Video(
+            VideoMemory::PaletteRam,
+            palette(lengths),
+            mirror::palette_offset(addr),
+        ),
+        Region::Vram => Target::Video(
+            VideoMemory::VideoRam,
+            vram(lengths),
+            mirror::vram_offset(addr),
+        ),
+        Region::Oam => Target::Video(
+            VideoMemory::ObjectRam,
+            oam(lengths),
+            mirror::oam_offset(addr),
+        ),
+        Region::GamePakRomWs0 => Target::GamePakRom,
+        Region::GamePakRomWs1 => Target::GamePakRom,
+        Region::GamePakRomWs2 => Target::GamePakRom,
+        Region::GamePakSram => Target::Sram(sram(lengths), mirror::sram_window_offset(addr)),
+        Region::UnusedHigh => Target::Unused,
+    }
+}
+
+pub fn target_of(addr: u32, lengths: Lengths) -> Target
+    requires { ⌜ def.lengthsSum lengths < 2 ^ 64 ⌝ }
+    ensures { λ r. ⌜ r ≡ def.target lengths addr ⌝ }
+{
+    target_in(region::decode(addr), addr, lengths)
+}
+
+// The bus of 8 bits: a wide load repeats its byte, a wide store takes one.
+pub fn is_sram(target: Target) -> bool
+    ensures { λ r. ⌜ r ≡ def.isSram target ⌝ }
+{
+    match target {
+        Target::Unused => false,
+        Target::SystemRom => false,
+        Target::GamePakRom => false,
+        Target::Plain(_, _) => false,
+        Target::Video(_, _, _) => false,
+        Target::Sram(_, _) => true,
+    }
+}
+
+// ---- a memory as its part of the store, lent on: past its end a load gives 0 and a store is dropped
+
+pub fn byte_in(store: &[u8], part: Part, index: usize) -> u8
+    requires { ⌜ part .base + part .size ≤ length (now store) ⌝ }
+    ensures { λ r. ⌜ r ≡ def.byteIn (now (store .entry)) part index ⌝ }
+{
+    let base = part.base;
+    let end = base + part.size;
+    byte_at(&store[base..end], index)
 }
 
 fn write_slice(buf: &mut [u8], index: usize, value: u8)
@@ -107,32 +177,38 @@ fn write_slice(buf: &mut [u8], index: usize, value: u8)
     }
 }
 
-// ---- a memory as its part of the store, lent on to the two above
-
-pub fn byte_in(store: &[u8], part: Part, index: usize) -> u8
-    requires { ⌜ part .base + part .size ≤ length (now store) ⌝ }
-    ensures { λ r. ⌜ r ≡ byteIn (now (store .entry)) (partOf part) index ⌝ }
-{
-    let base = part.base;
-    let end = base + part.size;
-    read_slice(&store[base..end], index)
-}
-
 pub fn put(store: &mut [u8], part: Part, index: usize, value: u8)
     requires { ⌜ part .base + part .size ≤ length (now store) ⌝ }
-    ensures { λ r. ⌜ now (store .exit) ≡ landed (now (store .entry)) (put (partOf part) index value) ⌝ }
+    ensures { λ r. ⌜ now (store .exit) ≡ landed (now (store .entry)) (put part index value) ⌝ }
 {
     let base = part.base;
     let end = base + part.size;
     write_slice(&mut store[base..end], index, value)
 }
 
-// A halfword, aligned: `write16_video_raw`, for every memory.
-pub fn put_half(store: &mut [u8], part: Part, index: usize, value: u16)
-    requires { ⌜ part .base + part .size ≤ length (now store) ⌝ }
-    ensures { λ r. ⌜ now (store .exit) ≡ landed (now (store .entry)) (putHalf (partOf part) index (value % 256) (value / 256 % 256)) ⌝ }
+// The two low bytes of a value, from an index on.
+fn put_two(store: &mut [u8], part: Part, index: usize, value: u32)
+    requires { ⌜ (part .base + part .size ≤ length (now store)) × (index + 1 < 2 ^ 64) ⌝ }
+    ensures { λ r. ⌜ now (store .exit) ≡ landed (now (store .entry)) (putBytes part index 2 value) ⌝ }
 {
-    let aligned = index / 2 * 2;
-    put(store, part, aligned, (value % 256) as u8);
-    put(store, part, aligned + 1, (value / 256 % 256) as u8);
+    put(store, part, index, (value % 256) as u8);
+    put(store, part, index + 1, (value / 256 % 256) as u8);
+}
+
+// A halfword, aligned: `write16_video_raw`, for every memory.
+pub fn put_half(store: &mut [u8], part: Part, index: usize, value: u32)
+    requires { ⌜ part .base + part .size ≤ length (now store) ⌝ }
+    ensures { λ r. ⌜ now (store .exit) ≡ landed (now (store .entry)) (putAligned part index 2 value) ⌝ }
+{
+    put_two(store, part, index / 2 * 2, value)
+}
+
+// A word, aligned.
+pub fn put_word(store: &mut [u8], part: Part, index: usize, value: u32)
+    requires { ⌜ part .base + part .size ≤ length (now store) ⌝ }
+    ensures { λ r. ⌜ now (store .exit) ≡ landed (now (store .entry)) (putAligned part index 4 value) ⌝ }
+{
+    let aligned = index / 4 * 4;
+    put_two(store, part, aligned, value);
+    put_two(store, part, aligned + 2, value / 0x1_0000)
 }

@@ -1,19 +1,21 @@
 // The Game Pak prefetch buffer: it fetches opcode halfwords ahead of the CPU while the cartridge bus is idle. Port of
 // src/bus/prefetch.rs. The buffer goes in by value and comes back; its eight halfwords are lent beside it.
+use le::byte_at;
 use model::AccessKind;
 use model::PrefetchBuffer;
 use model::Windowed;
+use region::mirror::rom_offset;
 ghost use mathlib.Core.Path.{_≡_};
-ghost use Prim.Native.Nat.{_<_, _≤_, min};
+ghost use Prim.Native.Nat.{_<_, _≤_, _-_, min};
 ghost use Rattle.model.specs.Base as base;
 ghost use Rattle.model.specs.Load as load;
 ghost use Rattle.model.specs.Mirror as mirrored;
 ghost use Rattle.model.specs.Prefetch as def;
-ghost use Rattle.model.specs.Wait as wait;
 ghost use Rattle.model.specs.Laws.Bounds.{SmallWaits};
 ghost use Rattle.model.specs.Laws.Sound.{Sound};
 ghost use Rattle.prefetch.specs.Beat.{Beat};
 ghost use Rattle.prefetch.specs.Found.{found, fetchedHalf};
+ghost use Rattle.prefetch.specs.Ticked.{Ticked};
 
 // Halfwords that the buffer can hold.
 pub const PREFETCH_CAPACITY: usize = 8;
@@ -33,8 +35,8 @@ pub struct Fetched {
 // ---- the switch, draining and restarting
 
 // Drop all halfwords and the beat in flight.
-pub fn drain(p: PrefetchBuffer) -> PrefetchBuffer
-    ensures { λ r. ⌜ r ≡ def.drained p ⌝ }
+pub fn drain(buffer: PrefetchBuffer) -> PrefetchBuffer
+    ensures { λ r. ⌜ r ≡ def.drained buffer ⌝ }
 {
     PrefetchBuffer {
         head: 0,
@@ -42,43 +44,43 @@ pub fn drain(p: PrefetchBuffer) -> PrefetchBuffer
         next_addr: 0,
         wait_left: 0,
         head_addr: 0,
-        enabled: p.enabled,
+        enabled: buffer.enabled,
         filling: false,
         first_beat: false,
     }
 }
 
 // WAITCNT bit 14: to switch off drains.
-pub fn set_enabled(p: PrefetchBuffer, enable: bool) -> PrefetchBuffer
-    ensures { λ r. ⌜ r ≡ def.setEnabled enable p ⌝ }
+pub fn set_enabled(buffer: PrefetchBuffer, enable: bool) -> PrefetchBuffer
+    ensures { λ r. ⌜ r ≡ def.setEnabled enable buffer ⌝ }
 {
-    if p.enabled == enable {
-        return p;
+    if buffer.enabled == enable {
+        return buffer;
     }
-    let mut q = p;
-    q.enabled = enable;
+    let mut switched = buffer;
+    switched.enabled = enable;
     if enable {
-        return q;
+        return switched;
     }
-    drain(q)
+    drain(switched)
 }
 
 // Start to fill from the halfword at `addr`.
-pub fn restart(p: PrefetchBuffer, addr: u32, waits: [[u8; 2]; 3]) -> PrefetchBuffer
-    ensures { λ r. ⌜ r ≡ def.restart waits p addr ⌝ }
+pub fn restart(buffer: PrefetchBuffer, addr: u32, waits: [[u8; 2]; 3]) -> PrefetchBuffer
+    ensures { λ r. ⌜ r ≡ def.restart waits buffer addr ⌝ }
 {
-    let mut q = drain(p);
-    if !p.enabled {
-        return q;
+    let mut started = drain(buffer);
+    if !buffer.enabled {
+        return started;
     }
     let Windowed::In(window) = waits::window_from_addr(addr) else {
-        return q;
+        return started;
     };
-    q.next_addr = addr / 2 * 2;
-    q.first_beat = true;
-    q.filling = true;
-    q.wait_left = waits::rom_half_cycles(waits, window, AccessKind::Nonseq);
-    q
+    started.next_addr = addr / 2 * 2;
+    started.first_beat = true;
+    started.filling = true;
+    started.wait_left = waits::rom_half_cycles(waits, window, AccessKind::Nonseq);
+    started
 }
 
 // ---- beats: a beat fetches one halfword from ROM
@@ -87,8 +89,7 @@ pub fn restart(p: PrefetchBuffer, addr: u32, waits: [[u8; 2]; 3]) -> PrefetchBuf
 fn rom_byte(rom: &[u8], addr: u32) -> u8
     ensures { λ r. ⌜ r ≡ base.byteAt (now (rom .entry)) (mirrored.romOffset addr) ⌝ }
 {
-    let at = region::mirror::rom_offset(addr);
-    if at < rom.len() { rom[at] } else { 0 }
+    byte_at(rom, rom_offset(addr))
 }
 
 // `read_half`: the halfword load of the bus inside the ROM windows.
@@ -100,75 +101,65 @@ fn rom_half(rom: &[u8], addr: u32) -> u16
     low as u16 + 0x100 * high as u16
 }
 
-fn kind_if(first_beat: bool) -> AccessKind
-    ensures { λ r. ⌜ r ≡ wait.nonseqIf «first_beat» ⌝ }
-{
-    if first_beat {
-        AccessKind::Nonseq
-    } else {
-        AccessKind::Seq
-    }
-}
-
 // The next beat; the filling stops where the next address has no window.
-fn start_beat(p: PrefetchBuffer, waits: [[u8; 2]; 3]) -> PrefetchBuffer
-    ensures { λ r. ⌜ r ≡ def.startBeat waits p ⌝ }
+fn start_beat(buffer: PrefetchBuffer, waits: [[u8; 2]; 3]) -> PrefetchBuffer
+    ensures { λ r. ⌜ r ≡ def.startBeat waits buffer ⌝ }
 {
-    let mut q = p;
-    let Windowed::In(window) = waits::window_from_addr(p.next_addr) else {
-        q.filling = false;
-        return q;
+    let mut next = buffer;
+    let Windowed::In(window) = waits::window_from_addr(buffer.next_addr) else {
+        next.filling = false;
+        return next;
     };
-    let kind = kind_if(p.first_beat);
-    q.first_beat = false;
-    q.wait_left = waits::rom_half_cycles_at(waits, p.next_addr, window, kind);
-    q.filling = true;
-    q
+    let kind = waits::nonseq_if(buffer.first_beat);
+    next.first_beat = false;
+    next.wait_left = waits::rom_half_cycles_at(waits, buffer.next_addr, window, kind);
+    next.filling = true;
+    next
 }
 
 // With no beat in flight, room in the buffer and a window to fetch from, a beat starts.
-fn ready(p: PrefetchBuffer, waits: [[u8; 2]; 3]) -> PrefetchBuffer
-    ensures { λ r. ⌜ r ≡ def.ready waits p ⌝ }
+fn ready(buffer: PrefetchBuffer, waits: [[u8; 2]; 3]) -> PrefetchBuffer
+    ensures { λ r. ⌜ r ≡ def.ready waits buffer ⌝ }
 {
-    if !p.filling & (p.count < PREFETCH_CAPACITY) & waits::in_window(p.next_addr) {
-        return start_beat(p, waits);
+    if !buffer.filling & (buffer.count < PREFETCH_CAPACITY) & waits::in_window(buffer.next_addr) {
+        return start_beat(buffer, waits);
     }
-    p
+    buffer
 }
 
 // The halfword in flight is in the buffer.
-fn arrive(p: PrefetchBuffer) -> PrefetchBuffer
-    requires { ⌜ p .count < 8 ⌝ }
-    ensures { λ r. ⌜ r ≡ def.arrived p ⌝ }
+fn arrive(buffer: PrefetchBuffer) -> PrefetchBuffer
+    requires { ⌜ buffer .count < 8 ⌝ }
+    ensures { λ r. ⌜ r ≡ def.arrived buffer ⌝ }
 {
-    let next_addr = std::num::wrapping_add_u32(p.next_addr, 2);
-    let head_addr = if p.count == 0 {
-        p.next_addr
+    let next_addr = std::num::wrapping_add_u32(buffer.next_addr, 2);
+    let head_addr = if buffer.count == 0 {
+        buffer.next_addr
     } else {
-        p.head_addr
+        buffer.head_addr
     };
     PrefetchBuffer {
-        head: p.head,
-        count: p.count + 1,
+        head: buffer.head,
+        count: buffer.count + 1,
         next_addr,
         wait_left: 0,
         head_addr,
-        enabled: p.enabled,
+        enabled: buffer.enabled,
         filling: false,
-        first_beat: p.first_beat,
+        first_beat: buffer.first_beat,
     }
 }
 
 // The beat in flight ends, and the next one starts until the buffer is full.
-fn end_beat(p: PrefetchBuffer, waits: [[u8; 2]; 3]) -> PrefetchBuffer
-    requires { ⌜ p .count < 8 ⌝ }
-    ensures { λ r. ⌜ r ≡ def.ended waits p ⌝ }
+fn end_beat(buffer: PrefetchBuffer, waits: [[u8; 2]; 3]) -> PrefetchBuffer
+    requires { ⌜ buffer .count < 8 ⌝ }
+    ensures { λ r. ⌜ r ≡ def.ended waits buffer ⌝ }
 {
-    let q = arrive(p);
-    if q.count < PREFETCH_CAPACITY {
-        return start_beat(q, waits);
+    let arrived = arrive(buffer);
+    if arrived.count < PREFETCH_CAPACITY {
+        return start_beat(arrived, waits);
     }
-    q
+    arrived
 }
 
 // ---- idle cycles
@@ -180,125 +171,136 @@ fn least(a: u32, b: u32) -> u32
     if a <= b { a } else { b }
 }
 
+// Fewer cycles than the beat in flight has left only shorten it.
+fn shorten(buffer: PrefetchBuffer, cycles: u32) -> PrefetchBuffer
+    requires { ⌜ cycles ≤ buffer .«wait_left» ⌝ }
+    ensures { λ r. ⌜ r ≡ def.withWait (buffer .«wait_left» - cycles) buffer ⌝ }
+{
+    PrefetchBuffer {
+        head: buffer.head,
+        count: buffer.count,
+        next_addr: buffer.next_addr,
+        wait_left: buffer.wait_left - cycles,
+        head_addr: buffer.head_addr,
+        enabled: buffer.enabled,
+        filling: buffer.filling,
+        first_beat: buffer.first_beat,
+    }
+}
+
 // Cycles of the beat in flight, at most as many as it has left. The last one brings the halfword.
 fn run_beat(
-    p: PrefetchBuffer,
+    buffer: PrefetchBuffer,
     halves: &mut [u16; 8],
     step: u32,
     waits: [[u8; 2]; 3],
     rom: &[u8],
 ) -> PrefetchBuffer
-    requires { ⌜ Beat p step ⌝ }
-    ensures { λ r. ⌜ (r ≡ def.ticks waits step p) × (now (halves .exit) ≡ def.filled (load.romHalfword (now (rom .entry))) waits step p (now (halves .entry))) ⌝ }
+    requires { ⌜ Beat buffer step ⌝ }
+    ensures { λ r. ⌜ Ticked waits (now (rom .entry)) step buffer (now (halves .entry)) r (now (halves .exit)) ⌝ }
 {
-    if step < p.wait_left {
-        return PrefetchBuffer {
-            head: p.head,
-            count: p.count,
-            next_addr: p.next_addr,
-            wait_left: p.wait_left - step,
-            head_addr: p.head_addr,
-            enabled: p.enabled,
-            filling: p.filling,
-            first_beat: p.first_beat,
-        };
+    if step < buffer.wait_left {
+        return shorten(buffer, step);
     }
-    let slot = (p.head + p.count) % PREFETCH_CAPACITY;
-    halves[slot] = rom_half(rom, p.next_addr);
-    end_beat(p, waits)
+    let slot = (buffer.head + buffer.count) % PREFETCH_CAPACITY;
+    halves[slot] = rom_half(rom, buffer.next_addr);
+    end_beat(buffer, waits)
 }
 
 // Idle cycles of the cartridge bus, whole beats at a time. The Rust's loop also asks whether the buffer is full or a beat has no
-// cycle left: on a sound buffer neither holds while a beat is in flight. Nor is a next address with a window ever 0.
+// cycle left: on a sound buffer neither holds while one is in flight, nor is a next address with a window ever 0.
 pub fn tick_idle(
-    p: PrefetchBuffer,
+    buffer: PrefetchBuffer,
     halves: &mut [u16; 8],
     cycles: u32,
     waits: [[u8; 2]; 3],
     rom: &[u8],
 ) -> PrefetchBuffer
-    requires { ⌜ Sound p × SmallWaits waits ⌝ }
-    ensures { λ r. ⌜ (r ≡ def.ticks waits cycles p) × (now (halves .exit) ≡ def.filled (load.romHalfword (now (rom .entry))) waits cycles p (now (halves .entry))) ⌝ }
+    requires { ⌜ Sound buffer × SmallWaits waits ⌝ }
+    ensures { λ r. ⌜ Ticked waits (now (rom .entry)) cycles buffer (now (halves .entry)) r (now (halves .exit)) ⌝ }
 {
-    if !p.enabled | (cycles == 0) {
-        return p;
+    if cycles == 0 {
+        return buffer;
     }
-    let mut q = ready(p, waits);
+    if !buffer.enabled {
+        return buffer;
+    }
+    let mut current = ready(buffer, waits);
     let mut left = cycles;
-    while left > 0 && q.filling {
-        let step = least(left, q.wait_left);
-        q = run_beat(q, halves, step, waits, rom);
+    while left > 0 && current.filling {
+        let step = least(left, current.wait_left);
+        current = run_beat(current, halves, step, waits, rom);
         left -= step;
     }
-    q
+    current
 }
 
 // ---- opcode fetches
 
 // The switch is on and a halfword stands.
-fn occupied(p: PrefetchBuffer) -> bool
-    ensures { λ r. ⌜ r ≡ def.occupied p ⌝ }
+fn occupied(buffer: PrefetchBuffer) -> bool
+    ensures { λ r. ⌜ r ≡ def.occupied buffer ⌝ }
 {
-    p.enabled & (p.count != 0)
+    buffer.enabled & (buffer.count != 0)
 }
 
 // Whether a fetch would find the halfword at its address (pricing).
-pub fn hits(p: PrefetchBuffer, addr: u32) -> bool
-    ensures { λ r. ⌜ r ≡ def.hit p addr ⌝ }
+pub fn hits(buffer: PrefetchBuffer, addr: u32) -> bool
+    ensures { λ r. ⌜ r ≡ def.hit buffer addr ⌝ }
 {
-    occupied(p) & (addr / 2 * 2 == p.head_addr)
+    occupied(buffer) & (addr / 2 * 2 == buffer.head_addr)
 }
 
 // The halfword at the head, if it is that of the address.
-pub fn peek_half(p: PrefetchBuffer, halves: &[u16; 8], addr: u32) -> Half
-    requires { ⌜ p .head < 8 ⌝ }
-    ensures { λ r. ⌜ r ≡ found (now (halves .entry)) p addr ⌝ }
+pub fn peek_half(buffer: PrefetchBuffer, halves: &[u16; 8], addr: u32) -> Half
+    requires { ⌜ buffer .head < 8 ⌝ }
+    ensures { λ r. ⌜ r ≡ found (now (halves .entry)) buffer addr ⌝ }
 {
-    if !hits(p, addr) {
+    if !hits(buffer, addr) {
         return Half::Missed;
     }
-    let head = p.head;
+    let head = buffer.head;
     Half::Found(halves[head])
 }
 
 // The head's halfword is taken.
-fn take(p: PrefetchBuffer) -> PrefetchBuffer
-    requires { ⌜ (p .head < 8) × (1 ≤ p .count) ⌝ }
-    ensures { λ r. ⌜ r ≡ def.taken p ⌝ }
+fn take(buffer: PrefetchBuffer) -> PrefetchBuffer
+    requires { ⌜ (buffer .head < 8) × (1 ≤ buffer .count) ⌝ }
+    ensures { λ r. ⌜ r ≡ def.taken buffer ⌝ }
 {
-    let next = std::num::wrapping_add_u32(p.head_addr, 2);
-    let head_addr = if p.count == 1 { 0 } else { next };
+    let next = std::num::wrapping_add_u32(buffer.head_addr, 2);
+    let head_addr = if buffer.count == 1 { 0 } else { next };
     PrefetchBuffer {
-        head: (p.head + 1) % PREFETCH_CAPACITY,
-        count: p.count - 1,
-        next_addr: p.next_addr,
-        wait_left: p.wait_left,
+        head: (buffer.head + 1) % PREFETCH_CAPACITY,
+        count: buffer.count - 1,
+        next_addr: buffer.next_addr,
+        wait_left: buffer.wait_left,
         head_addr,
-        enabled: p.enabled,
-        filling: p.filling,
-        first_beat: p.first_beat,
+        enabled: buffer.enabled,
+        filling: buffer.filling,
+        first_beat: buffer.first_beat,
     }
 }
 
 // The buffer after a fetch: its head is taken on a hit. A miss drains it, but not when it is off or empty.
-pub fn after_fetch(p: PrefetchBuffer, addr: u32) -> PrefetchBuffer
-    requires { ⌜ p .head < 8 ⌝ }
-    ensures { λ r. ⌜ r ≡ def.fetched p addr ⌝ }
+pub fn after_fetch(buffer: PrefetchBuffer, addr: u32) -> PrefetchBuffer
+    requires { ⌜ buffer .head < 8 ⌝ }
+    ensures { λ r. ⌜ r ≡ def.fetched buffer addr ⌝ }
 {
-    if hits(p, addr) {
-        return take(p);
+    if hits(buffer, addr) {
+        return take(buffer);
     }
-    let drained = drain(p);
-    if occupied(p) { drained } else { p }
+    let drained = drain(buffer);
+    if occupied(buffer) { drained } else { buffer }
 }
 
 // An opcode fetch from the buffer.
-pub fn try_fetch_half(p: PrefetchBuffer, halves: &[u16; 8], addr: u32) -> Fetched
-    requires { ⌜ p .head < 8 ⌝ }
-    ensures { λ r. ⌜ r ≡ fetchedHalf (now (halves .entry)) p addr ⌝ }
+pub fn try_fetch_half(buffer: PrefetchBuffer, halves: &[u16; 8], addr: u32) -> Fetched
+    requires { ⌜ buffer .head < 8 ⌝ }
+    ensures { λ r. ⌜ r ≡ fetchedHalf (now (halves .entry)) buffer addr ⌝ }
 {
-    let half = peek_half(p, halves, addr);
-    let prefetch = after_fetch(p, addr);
+    let half = peek_half(buffer, halves, addr);
+    let prefetch = after_fetch(buffer, addr);
     Fetched { prefetch, half }
 }
 

@@ -8,7 +8,8 @@ use lib.Dec.{eqb, leb, ltb}
 use borrow.Author.Tests.{eqb-true, ltb-true, ltb-false, leb-true, le-leb, lt-leb, ne-eqb}
 use Rattle.model.specs.Base.{bit}
 use Rattle.model.specs.Sheet.{sizeFits, kindFault}
-use Rattle.model.specs.Laws.Choice.{either, by-test, tests, and-true-left, and-true-right, or-right, or-false-left, or-false-right}
+use Rattle.model.specs.Laws.Choice.{either, by-test, tests}
+use Rattle.model.specs.Laws.Choice.{and-true-left, and-true-right, or-right, or-false-left, or-false-right}
 use Rattle.model.specs.declared.SheetRecord.{SheetRecord}
 
 -- ---- a rule in the bits of one number
@@ -61,7 +62,9 @@ unfolding kindFault
 beyond-fault r e =
     by-test (ltb 9 (r .kind))
     (λ d. rw (le-leb 1 (r .kind) (omega (arith, tests)), lt-leb (r .kind) 9 (ltb-true 9 (r .kind) d)))
-    (λ d. rw (long-unfit (r .kind) (r .size) (ltb-true 4 (r .size) (or-right (ltb 9 (r .kind)) _ e d)), and-false (leb 1 (r .kind) && leb (r .kind) 9)))
+    (λ d.
+    let long = ltb-true 4 (r .size) (or-right (ltb 9 (r .kind)) _ e d) in
+    rw (long-unfit (r .kind) (r .size) long, and-false (leb 1 (r .kind) && leb (r .kind) 9)))
 
 -- the table's first two columns as one rule: kind i / 5 has size i % 5
 abbrev pub fits : ℕ → Bool

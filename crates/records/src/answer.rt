@@ -1,4 +1,4 @@
-// An answer's 12 bytes. From document 01, "Answer".
+// An answer as bytes. From document 01, "Answer".
 use le::bit;
 use le::put_pair;
 use model::Answer;
@@ -7,7 +7,7 @@ ghost use lib.ListN.{length};
 ghost use Rattle.model.specs.BoardBytes as def;
 
 pub fn put_answer(out: &mut [u8], x: Answer)
-    requires { ⌜ length (now out) ≡ 12 ⌝ }
+    requires { ⌜ length (now out) ≡ def.answerLength ⌝ }
     ensures { λ _. ⌜ now (out .exit) ≡ def.answerBytes x ⌝ }
 {
     put_pair(&mut out[0..8], x.value, x.cycles);

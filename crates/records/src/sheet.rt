@@ -2,9 +2,13 @@
 // table of kinds.
 use le::byte_at;
 use le::half;
+use le::half_at;
 use le::read32;
 use model::AccessSize;
+use model::HEADER_LENGTH;
 use model::IsaState;
+use model::MAX_RECORDS;
+use model::RECORD_LENGTH;
 use model::SheetRecord;
 use model::Step;
 ghost use mathlib.Core.Path.{_≡_};
@@ -13,13 +17,13 @@ ghost use lib.ListN.{length};
 ghost use Rattle.model.specs.Sheet as def;
 ghost use Rattle.records.specs.Limits.{kindLimits};
 
-pub const MAX_RECORDS: usize = 4096;
+// ---- the header
 
 // At least a header long, and it begins with "BTS".
 pub fn is_marked(sheet: &[u8]) -> bool
     ensures { λ r. ⌜ r ≡ def.isMarked (now (sheet .entry)) ⌝ }
 {
-    (8 <= sheet.len())
+    (HEADER_LENGTH <= sheet.len())
         & (byte_at(sheet, 0) == 0x42)
         & (byte_at(sheet, 1) == 0x54)
         & (byte_at(sheet, 2) == 0x53)
@@ -28,13 +32,13 @@ pub fn is_marked(sheet: &[u8]) -> bool
 pub fn version_of(sheet: &[u8]) -> u16
     ensures { λ r. ⌜ r ≡ def.versionOf (now (sheet .entry)) ⌝ }
 {
-    half(byte_at(sheet, 3), byte_at(sheet, 4))
+    half_at(sheet, 3)
 }
 
 pub fn record_count(sheet: &[u8]) -> usize
     ensures { λ r. ⌜ r ≡ def.recordCount (now (sheet .entry)) ⌝ }
 {
-    half(byte_at(sheet, 6), byte_at(sheet, 7)) as usize
+    half_at(sheet, 6) as usize
 }
 
 // Byte 5 is zero, there are not too many records, and the sheet is as long as they are.
@@ -42,15 +46,19 @@ pub fn is_shaped(sheet: &[u8]) -> bool
     ensures { λ r. ⌜ r ≡ def.isShaped (now (sheet .entry)) ⌝ }
 {
     let n = record_count(sheet);
-    (byte_at(sheet, 5) == 0) & (n <= MAX_RECORDS) & (sheet.len() == 8 + 12 * n)
+    (byte_at(sheet, 5) == 0)
+        & (n <= MAX_RECORDS)
+        & (sheet.len() == HEADER_LENGTH + RECORD_LENGTH * n)
 }
+
+// ---- a record
 
 // Record number k.
 pub fn record_at(sheet: &[u8], k: usize) -> SheetRecord
-    requires { ⌜ 8 + 12 * k + 12 ≤ length (now sheet) ⌝ }
+    requires { ⌜ def.recordStart k + def.recordLength ≤ length (now sheet) ⌝ }
     ensures { λ r. ⌜ r ≡ def.recordAt (now (sheet .entry)) k ⌝ }
 {
-    let at = 8 + 12 * k;
+    let at = HEADER_LENGTH + RECORD_LENGTH * k;
     SheetRecord {
         kind: sheet[at],
         size: sheet[at + 1],
@@ -82,23 +90,43 @@ fn isa_state(size: u8) -> IsaState
     IsaState::Arm
 }
 
-// The step of a record.
+// The step of a record. Few tests stand in a row, so that the compiler makes no table of jumps of them: kinds follow each
+// other in no order, and a jump by the kind would often be guessed wrong.
 pub fn step_of(r: SheetRecord) -> Step
     ensures { λ x. ⌜ x ≡ def.stepOf r ⌝ }
 {
     let kind = r.kind;
-    match kind {
-        1 => Step::Read(access_size(r.size), r.address),
-        2 => Step::Write(access_size(r.size), r.address, r.value),
-        3 => Step::Waitcnt((r.value % 0x1_0000) as u16),
-        4 => Step::Idle(r.value),
-        5 => Step::Fetch(r.address),
-        6 => Step::Restart(r.address),
-        7 => Step::Instruction(isa_state(r.size), r.address, r.value, r.flag == 1),
-        8 => Step::Pc(r.address),
-        _ => Step::Latch(r.value),
+    if kind == 4 {
+        return Step::Idle(r.value);
     }
+    if kind == 7 {
+        return Step::Instruction(isa_state(r.size), r.address, r.value, r.flag == 1);
+    }
+    if kind <= 2 {
+        if kind == 1 {
+            return Step::Read(access_size(r.size), r.address);
+        }
+        if kind == 2 {
+            return Step::Write(access_size(r.size), r.address, r.value);
+        }
+        return Step::Latch(r.value);
+    }
+    if kind <= 6 {
+        if kind == 3 {
+            return Step::Waitcnt((r.value % 0x1_0000) as u16);
+        }
+        if kind == 5 {
+            return Step::Fetch(r.address);
+        }
+        return Step::Restart(r.address);
+    }
+    if kind == 8 {
+        return Step::Pc(r.address);
+    }
+    Step::Latch(r.value)
 }
+
+// ---- the faults of a record
 
 // The sizes of each kind: bit 5 * kind + size. Five bits a kind, from kind 9 down to 0, which is no kind: sizes 1, 2 and 4 for
 // kinds 1 and 2, sizes 2 and 4 for kind 7, size 0 for the others.
@@ -149,7 +177,7 @@ fn field_fault(r: SheetRecord, limits: &[[u32; 3]; 10]) -> bool
 
 // The first record of n with a fault of kind or size; n where there is none.
 fn first_kind_fault(sheet: &[u8], n: usize) -> usize
-    requires { ⌜ 8 + 12 * n ≤ length (now sheet) ⌝ }
+    requires { ⌜ def.headerLength + def.recordLength * n ≤ length (now sheet) ⌝ }
     ensures { λ r. ⌜ r ≡ def.firstOf def.kindFault (def.recordsFrom (now (sheet .entry)) 0 n) ⌝ }
 {
     let mut k: usize = 0;
@@ -164,7 +192,7 @@ fn first_kind_fault(sheet: &[u8], n: usize) -> usize
 
 // The first record of n with a fault in its other fields; n where there is none.
 fn first_field_fault(sheet: &[u8], n: usize) -> usize
-    requires { ⌜ 8 + 12 * n ≤ length (now sheet) ⌝ }
+    requires { ⌜ def.headerLength + def.recordLength * n ≤ length (now sheet) ⌝ }
     ensures { λ r. ⌜ r ≡ def.firstOf def.fieldFault (def.recordsFrom (now (sheet .entry)) 0 n) ⌝ }
 {
     let limits = limits();
@@ -180,7 +208,7 @@ fn first_field_fault(sheet: &[u8], n: usize) -> usize
 
 // The least faulty of n records: one pass for kinds and sizes, a second for the other fields. n where there is none.
 pub fn least_faulty(sheet: &[u8], n: usize) -> usize
-    requires { ⌜ 8 + 12 * n ≤ length (now sheet) ⌝ }
+    requires { ⌜ def.headerLength + def.recordLength * n ≤ length (now sheet) ⌝ }
     ensures { λ r. ⌜ r ≡ def.leastFaulty (def.recordsFrom (now (sheet .entry)) 0 n) ⌝ }
 {
     let kind = first_kind_fault(sheet, n);

@@ -5,7 +5,6 @@ use model::Region;
 use model::RegionSize;
 use model::RegionWidth;
 ghost use mathlib.Core.Path.{_≡_};
-ghost use Rattle.model.specs.Load.{isSram};
 ghost use Rattle.model.specs.Region as map;
 
 pub mod mirror;
@@ -15,6 +14,7 @@ pub const BIOS_SIZE: usize = 0x4000;
 pub const EWRAM_SIZE: usize = 0x40000;
 
 pub const IWRAM_SIZE: usize = 0x8000;
+
 // The registers and the word at 0x800.
 pub const IO_SIZE: usize = 0x804;
 
@@ -55,6 +55,7 @@ pub fn decode(addr: u32) -> Region
     }
 }
 
+// Ported for completeness: nothing calls it yet; the page tables to come will.
 pub fn bus_width(region: Region) -> RegionWidth
     ensures { λ r. ⌜ r ≡ map.busWidth region ⌝ }
 {
@@ -75,6 +76,7 @@ pub fn bus_width(region: Region) -> RegionWidth
     }
 }
 
+// Ported for completeness: nothing calls it yet.
 pub fn is_game_pak_rom(region: Region) -> bool
     ensures { λ r. ⌜ r ≡ map.isGamePakRom region ⌝ }
 {
@@ -95,27 +97,7 @@ pub fn is_game_pak_rom(region: Region) -> bool
     }
 }
 
-// The bus of 8 bits.
-pub fn is_sram(region: Region) -> bool
-    ensures { λ r. ⌜ r ≡ isSram region ⌝ }
-{
-    match region {
-        Region::Bios => false,
-        Region::UnusedLow => false,
-        Region::Ewram => false,
-        Region::Iwram => false,
-        Region::Io => false,
-        Region::Palette => false,
-        Region::Vram => false,
-        Region::Oam => false,
-        Region::GamePakRomWs0 => false,
-        Region::GamePakRomWs1 => false,
-        Region::GamePakRomWs2 => false,
-        Region::GamePakSram => true,
-        Region::UnusedHigh => false,
-    }
-}
-
+// Ported for completeness: nothing calls it yet; the page tables to come will.
 pub fn physical_size(region: Region) -> RegionSize
     ensures { λ r. ⌜ r ≡ map.physicalSize region ⌝ }
 {

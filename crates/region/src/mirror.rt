@@ -1,31 +1,38 @@
 // The place of an address in its memory. Port of src/bus/mirror.rs. A remainder stands for the Rust's mask, which is the same
 // for a power of two.
+use super::EWRAM_SIZE;
+use super::IWRAM_SIZE;
+use super::OAM_SIZE;
+use super::PALETTE_SIZE;
+use super::ROM_WINDOW_SIZE;
+use super::SRAM_WINDOW_SIZE;
 use model::Offset;
 ghost use mathlib.Core.Path.{_≡_};
 ghost use Rattle.model.specs.Mirror as mirrored;
 
+// Each of these memories repeats over its page.
 pub fn ewram_offset(addr: u32) -> usize
     ensures { λ r. ⌜ r ≡ mirrored.ewramOffset addr ⌝ }
 {
-    (addr % 0x40000) as usize
+    addr as usize % EWRAM_SIZE
 }
 
 pub fn iwram_offset(addr: u32) -> usize
     ensures { λ r. ⌜ r ≡ mirrored.iwramOffset addr ⌝ }
 {
-    (addr % 0x8000) as usize
+    addr as usize % IWRAM_SIZE
 }
 
 pub fn palette_offset(addr: u32) -> usize
     ensures { λ r. ⌜ r ≡ mirrored.paletteOffset addr ⌝ }
 {
-    (addr % 0x400) as usize
+    addr as usize % PALETTE_SIZE
 }
 
 pub fn oam_offset(addr: u32) -> usize
     ensures { λ r. ⌜ r ≡ mirrored.oamOffset addr ⌝ }
 {
-    (addr % 0x400) as usize
+    addr as usize % OAM_SIZE
 }
 
 // 128 KiB repeat: 64, 32, and the same 32 again.
@@ -40,19 +47,20 @@ pub fn vram_offset(addr: u32) -> usize
     }
 }
 
+// The three windows show one image.
 pub fn rom_offset(addr: u32) -> usize
     ensures { λ r. ⌜ r ≡ mirrored.romOffset addr ⌝ }
 {
-    (addr % 0x200_0000) as usize
+    addr as usize % ROM_WINDOW_SIZE
 }
 
 pub fn sram_window_offset(addr: u32) -> usize
     ensures { λ r. ⌜ r ≡ mirrored.sramOffset addr ⌝ }
 {
-    (addr % 0x1_0000) as usize
+    addr as usize % SRAM_WINDOW_SIZE
 }
 
-// The place in a chip of 32 KiB.
+// The place in a chip of 32 KiB. Ported for completeness: nothing calls it yet.
 pub fn sram_chip_offset(addr: u32) -> usize
     ensures { λ r. ⌜ r ≡ mirrored.sramChipOffset addr ⌝ }
 {
@@ -76,6 +84,7 @@ pub fn io_offset(addr: u32) -> Offset
     Offset::Unbacked
 }
 
+// The BIOS doesn't repeat. Ported for completeness: nothing calls it yet.
 pub fn bios_offset(addr: u32) -> Offset
     ensures { λ r. ⌜ r ≡ mirrored.biosOffset addr ⌝ }
 {

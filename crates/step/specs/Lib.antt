@@ -1,2 +1,3 @@
-pub mod Idle
-pub mod Parts
+pub mod Begun
+pub mod Fetch
+pub mod Whole

@@ -1,6 +1,7 @@
-// One step of a run: what a record does to the board and the store, up to its idle cycles, which the run's loop ticks. Each step
-// stands for the Rust calls that document 01's table names.
+// One step of a run: what a record does to the board and the store, and its answer. Each step stands for the Rust calls that document
+// 01's table names.
 use model::AccessSize;
+use model::Answer;
 use model::Clock;
 use model::Contents;
 use model::IsaState;
@@ -8,7 +9,9 @@ use model::Lengths;
 use model::PrefetchBuffer;
 use model::Region;
 use model::Step;
+use model::Target;
 use model::TimingInput;
+use model::VideoMemory;
 use model::Windowed;
 use prefetch::Half;
 use stores::saturating_add;
@@ -17,46 +20,48 @@ ghost use mathlib.Core.Path.{_≡_};
 ghost use mathlib.Core.List.{[]};
 ghost use Prim.Native.Nat.{_<_};
 ghost use lib.ListN.{length};
-ghost use Rattle.model.specs.Waitcnt.{romWaits};
-ghost use Rattle.model.specs.Wait.{window as windowOf};
-ghost use Rattle.model.specs.Load.{lengthsSum};
-ghost use Rattle.model.specs.Price.{dataCycles};
+ghost use Rattle.model.specs.Waitcnt.{romWaits, sramWaits};
+ghost use Rattle.model.specs.Memory.{lengthsSum};
+ghost use Rattle.model.specs.Price.{price, dataBeatsIn};
 ghost use Rattle.model.specs.Step as machine;
+ghost use Rattle.model.specs.Laws.Sound.{SoundClock};
 ghost use Rattle.model.specs.declared.IsaState.the-variants.{Arm, Thumb};
-ghost use Rattle.model.specs.declared.Step.the-variants as step;
-ghost use Rattle.step.specs.Parts as def;
+ghost use Rattle.model.specs.declared.Step.the-variants as kind;
+ghost use Rattle.step.specs.Begun as def;
+ghost use Rattle.step.specs.Begun.{Runnable, Reads, Writes};
+ghost use Rattle.step.specs.Fetch.{fetchOf, codeFetch};
 
-// A step, but for its idle cycles.
-pub struct Stepped {
-    pub clock: Clock,
-    pub contents: Contents,
-    pub value: u32,
-    pub cycles: u32,
-    pub hits: u8,
-    pub idle: u32,
+// A step up to its idle cycles, and how many of them follow.
+struct Begun {
+    clock: Clock,
+    idle: u32,
+    cycles: u32,
+    hits: u8,
+    value: u32,
+    contents: Contents,
 }
 
 // A step that answers nothing.
-fn quiet(clock: Clock, contents: Contents, cycles: u32, idle: u32) -> Stepped
-    ensures { λ r. ⌜ r ≡ record { clock = clock; contents = contents; value = 0; cycles = cycles; hits = 0; idle = idle } ⌝ }
+fn unanswered(clock: Clock, contents: Contents, cycles: u32, idle: u32) -> Begun
+    ensures { λ r. ⌜ r ≡ def.joining (machine.timing clock idle cycles 0) (machine.change 0 contents []) ⌝ }
 {
-    Stepped {
+    Begun {
         clock,
-        contents,
-        value: 0,
+        idle,
         cycles,
         hits: 0,
-        idle,
+        value: 0,
+        contents,
     }
 }
 
 // The price of a data access; the waits are those of the register.
-fn data_price(waitcnt: u16, waits: [[u8; 2]; 3], size: AccessSize, addr: u32) -> u32
+fn data_price(waitcnt: u16, waits: [[u8; 2]; 3], size: AccessSize, region: Region) -> u32
     requires { ⌜ waits ≡ romWaits waitcnt ⌝ }
-    ensures { λ r. ⌜ r ≡ dataCycles waitcnt size addr ⌝ }
+    ensures { λ r. ⌜ r ≡ price (romWaits waitcnt) (dataBeatsIn (sramWaits waitcnt) size region) ⌝ }
 {
     let register = WaitCnt { raw: waitcnt };
-    timing::data_cycles(waits, register.sram_waits(), size, addr)
+    timing::data_cycles(waits, register.sram_waits(), size, region)
 }
 
 // READ: `read8`, `read16`, `read32`.
@@ -70,21 +75,23 @@ fn read_step(
     bios: &[u8],
     rom: &[u8],
     lengths: Lengths,
-) -> Stepped
+) -> Begun
     requires { ⌜ (waits ≡ romWaits (clock .waitcnt)) × (lengthsSum lengths ≡ length (now store)) ⌝ }
-    ensures { λ r. ⌜ r ≡ def.steppedOf (def.mediaFrom (now (bios .entry)) (now (rom .entry)) lengths) (def.stateFrom clock [] contents (now (store .entry))) (step.Read size addr) ⌝ }
+    ensures { λ r. ⌜ Reads clock contents size addr lengths (now (bios .entry)) (now (rom .entry)) (now (store .entry)) r ⌝ }
 {
+    let region = region::decode(addr);
+    let target = parts::target_in(region, addr, lengths);
     let pc = contents.cpu_pc;
     let latch = contents.last_bios_opcode;
-    let value = loads::read(size, addr, pc, latch, bios, rom, store, lengths);
-    let cycles = data_price(clock.waitcnt, waits, size, addr);
-    Stepped {
+    let value = loads::read(size, target, addr, pc, latch, bios, rom, store, lengths);
+    let cycles = data_price(clock.waitcnt, waits, size, region);
+    Begun {
         clock,
-        contents,
-        value,
+        idle: 0,
         cycles,
         hits: 0,
-        idle: 0,
+        value,
+        contents,
     }
 }
 
@@ -100,28 +107,32 @@ fn with_counters(contents: Contents, vram: u64, oam: u64, palette: u64) -> Conte
     }
 }
 
-// The counters after a store to a region that counted n halfwords.
-fn count_stores(contents: Contents, region: Region, n: u32) -> Contents
-    ensures { λ r. ⌜ r ≡ def.countedBy region n contents ⌝ }
+// n halfwords go to the counter of a video memory.
+fn count_in(contents: Contents, memory: VideoMemory, n: u32) -> Contents
+    ensures { λ r. ⌜ r ≡ machine.countedIn memory n contents ⌝ }
 {
     let k = n as u64;
     let vram = contents.vram_write_count;
     let oam = contents.oam_write_count;
     let palette = contents.palette_write_count;
-    match region {
-        Region::Bios => contents,
-        Region::UnusedLow => contents,
-        Region::Ewram => contents,
-        Region::Iwram => contents,
-        Region::Io => contents,
-        Region::Palette => with_counters(contents, vram, oam, saturating_add(palette, k)),
-        Region::Vram => with_counters(contents, saturating_add(vram, k), oam, palette),
-        Region::Oam => with_counters(contents, vram, saturating_add(oam, k), palette),
-        Region::GamePakRomWs0 => contents,
-        Region::GamePakRomWs1 => contents,
-        Region::GamePakRomWs2 => contents,
-        Region::GamePakSram => contents,
-        Region::UnusedHigh => contents,
+    match memory {
+        VideoMemory::PaletteRam => with_counters(contents, vram, oam, saturating_add(palette, k)),
+        VideoMemory::VideoRam => with_counters(contents, saturating_add(vram, k), oam, palette),
+        VideoMemory::ObjectRam => with_counters(contents, vram, saturating_add(oam, k), palette),
+    }
+}
+
+// The counters after a store that counted n halfwords in the memory that it met.
+fn count_store(contents: Contents, target: Target, n: u32) -> Contents
+    ensures { λ r. ⌜ r ≡ machine.countedAt target n contents ⌝ }
+{
+    match target {
+        Target::Unused => contents,
+        Target::SystemRom => contents,
+        Target::GamePakRom => contents,
+        Target::Plain(_, _) => contents,
+        Target::Video(memory, _, _) => count_in(contents, memory, n),
+        Target::Sram(_, _) => contents,
     }
 }
 
@@ -135,16 +146,16 @@ fn write_step(
     value: u32,
     store: &mut [u8],
     lengths: Lengths,
-) -> Stepped
+) -> Begun
     requires { ⌜ (waits ≡ romWaits (clock .waitcnt)) × (lengthsSum lengths ≡ length (now store)) ⌝ }
-    ensures { λ r. ⌜ r ≡ def.steppedOf (def.mediaFrom [] [] lengths) (def.stateFrom clock [] contents (now (store .entry))) (step.Write size addr value) ⌝ }
-    ensures { λ r. ⌜ now (store .exit) ≡ machine.storeAfter (def.mediaFrom [] [] lengths) (def.stateFrom clock [] contents (now (store .entry))) (step.Write size addr value) ⌝ }
+    ensures { λ r. ⌜ Writes clock contents size addr value lengths (now (store .entry)) r (now (store .exit)) ⌝ }
 {
-    let n = stores::write(size, addr, value, store, lengths);
     let region = region::decode(addr);
-    let counted = count_stores(contents, region, n);
-    let cycles = data_price(clock.waitcnt, waits, size, addr);
-    quiet(clock, counted, cycles, 0)
+    let target = parts::target_in(region, addr, lengths);
+    let n = stores::write(size, target, addr, value, store, lengths);
+    let counted = count_store(contents, target, n);
+    let cycles = data_price(clock.waitcnt, waits, size, region);
+    unanswered(clock, counted, cycles, 0)
 }
 
 // WAITCNT: `write`, then `apply_waitcnt`.
@@ -162,7 +173,7 @@ fn set_waitcnt(clock: Clock, value: u16) -> Clock
     }
 }
 
-pub fn with_prefetch(clock: Clock, prefetch: PrefetchBuffer) -> Clock
+fn with_prefetch(clock: Clock, prefetch: PrefetchBuffer) -> Clock
     ensures { λ r. ⌜ r ≡ machine.withPrefetch clock prefetch ⌝ }
 {
     Clock {
@@ -175,16 +186,16 @@ pub fn with_prefetch(clock: Clock, prefetch: PrefetchBuffer) -> Clock
 // RESTART: `restart`.
 fn restarted(clock: Clock, waits: [[u8; 2]; 3], addr: u32) -> Clock
     requires { ⌜ waits ≡ romWaits (clock .waitcnt) ⌝ }
-    ensures { λ r. ⌜ r ≡ machine.clockAfter clock (step.Restart addr) ⌝ }
+    ensures { λ r. ⌜ r ≡ (machine.timed clock (kind.Restart addr)) .clock ⌝ }
 {
     let p = clock.prefetch;
     with_prefetch(clock, prefetch::restart(p, addr, waits))
 }
 
 // FETCH: `try_fetch_half`.
-fn fetch_step(clock: Clock, contents: Contents, halves: &[u16; 8], addr: u32) -> Stepped
+fn fetch_step(clock: Clock, contents: Contents, halves: &[u16; 8], addr: u32) -> Begun
     requires { ⌜ clock .prefetch .head < 8 ⌝ }
-    ensures { λ r. ⌜ r ≡ def.steppedOf (def.mediaFrom [] [] def.noLengths) (def.stateFrom clock (now (halves .entry)) contents []) (step.Fetch addr) ⌝ }
+    ensures { λ r. ⌜ r ≡ def.bare clock (now (halves .entry)) contents (kind.Fetch addr) ⌝ }
 {
     let p = clock.prefetch;
     let fetched = prefetch::try_fetch_half(p, halves, addr);
@@ -192,15 +203,15 @@ fn fetch_step(clock: Clock, contents: Contents, halves: &[u16; 8], addr: u32) ->
     let half = fetched.half;
     let after = with_prefetch(clock, prefetch);
     let Half::Found(value) = half else {
-        return quiet(after, contents, 0, 0);
+        return unanswered(after, contents, 0, 0);
     };
-    Stepped {
+    Begun {
         clock: after,
-        contents,
-        value: value as u32,
+        idle: 0,
         cycles: 0,
         hits: 1,
-        idle: 0,
+        value: value as u32,
+        contents,
     }
 }
 
@@ -211,52 +222,52 @@ struct CodeFetch {
 }
 
 // A restart drains, so that a half that misses need not be fetched first.
-fn fetch_thumb(p: PrefetchBuffer, addr: u32, waits: [[u8; 2]; 3]) -> CodeFetch
-    requires { ⌜ p .head < 8 ⌝ }
-    ensures { λ r. ⌜ r ≡ def.fetchOf waits p addr Thumb ⌝ }
+fn fetch_thumb(buffer: PrefetchBuffer, addr: u32, waits: [[u8; 2]; 3]) -> CodeFetch
+    requires { ⌜ buffer .head < 8 ⌝ }
+    ensures { λ r. ⌜ r ≡ fetchOf waits buffer addr Thumb ⌝ }
 {
-    if prefetch::hits(p, addr) {
-        let prefetch = prefetch::after_fetch(p, addr);
+    if prefetch::hits(buffer, addr) {
+        let prefetch = prefetch::after_fetch(buffer, addr);
         return CodeFetch { prefetch, hits: 1 };
     }
-    let prefetch = prefetch::restart(p, std::num::wrapping_add_u32(addr, 2), waits);
+    let prefetch = prefetch::restart(buffer, std::num::wrapping_add_u32(addr, 2), waits);
     CodeFetch { prefetch, hits: 0 }
 }
 
 // Where the first half misses, so does the second.
-fn fetch_arm(p: PrefetchBuffer, addr: u32, waits: [[u8; 2]; 3]) -> CodeFetch
-    requires { ⌜ p .head < 8 ⌝ }
-    ensures { λ r. ⌜ r ≡ def.fetchOf waits p addr Arm ⌝ }
+fn fetch_arm(buffer: PrefetchBuffer, addr: u32, waits: [[u8; 2]; 3]) -> CodeFetch
+    requires { ⌜ buffer .head < 8 ⌝ }
+    ensures { λ r. ⌜ r ≡ fetchOf waits buffer addr Arm ⌝ }
 {
     let next = std::num::wrapping_add_u32(addr, 2);
     let after = std::num::wrapping_add_u32(addr, 4);
-    if !prefetch::hits(p, addr) {
-        let prefetch = prefetch::restart(p, after, waits);
+    if !prefetch::hits(buffer, addr) {
+        let prefetch = prefetch::restart(buffer, after, waits);
         return CodeFetch { prefetch, hits: 0 };
     }
-    let q = prefetch::after_fetch(p, addr);
-    if prefetch::hits(q, next) {
-        let prefetch = prefetch::after_fetch(q, next);
+    let rest = prefetch::after_fetch(buffer, addr);
+    if prefetch::hits(rest, next) {
+        let prefetch = prefetch::after_fetch(rest, next);
         return CodeFetch { prefetch, hits: 2 };
     }
-    let prefetch = prefetch::restart(q, after, waits);
+    let prefetch = prefetch::restart(rest, after, waits);
     CodeFetch { prefetch, hits: 1 }
 }
 
 // Code in a window goes through the buffer; code elsewhere leaves it alone.
-fn fetch_code(p: PrefetchBuffer, isa: IsaState, addr: u32, waits: [[u8; 2]; 3]) -> CodeFetch
-    requires { ⌜ p .head < 8 ⌝ }
-    ensures { λ r. ⌜ r ≡ record { prefetch = machine.fetchedIn waits p addr isa (windowOf addr); hits = machine.hitsIn p addr isa (windowOf addr) } ⌝ }
+fn fetch_code(buffer: PrefetchBuffer, isa: IsaState, addr: u32, waits: [[u8; 2]; 3]) -> CodeFetch
+    requires { ⌜ buffer .head < 8 ⌝ }
+    ensures { λ r. ⌜ r ≡ codeFetch waits buffer addr isa ⌝ }
 {
     let Windowed::In(_window) = waits::window_from_addr(addr) else {
         return CodeFetch {
-            prefetch: p,
+            prefetch: buffer,
             hits: 0,
         };
     };
     match isa {
-        IsaState::Arm => fetch_arm(p, addr, waits),
-        IsaState::Thumb => fetch_thumb(p, addr, waits),
+        IsaState::Arm => fetch_arm(buffer, addr, waits),
+        IsaState::Thumb => fetch_thumb(buffer, addr, waits),
     }
 }
 
@@ -269,9 +280,9 @@ fn instruction_step(
     addr: u32,
     opcode: u32,
     pc_changed: bool,
-) -> Stepped
+) -> Begun
     requires { ⌜ (waits ≡ romWaits (clock .waitcnt)) × (clock .prefetch .head < 8) ⌝ }
-    ensures { λ r. ⌜ r ≡ def.steppedOf (def.mediaFrom [] [] def.noLengths) (def.stateFrom clock [] contents []) (step.Instruction isa addr opcode «pc_changed») ⌝ }
+    ensures { λ r. ⌜ r ≡ def.bare clock [] contents (kind.Instruction isa addr opcode «pc_changed») ⌝ }
 {
     let p = clock.prefetch;
     let input = TimingInput {
@@ -290,13 +301,13 @@ fn instruction_step(
         force_next_fetch_n: price.latch_disable_bug,
         prefetch,
     };
-    Stepped {
+    Begun {
         clock: after,
-        contents,
-        value: price.cart_idle,
+        idle: price.cart_idle,
         cycles: price.total,
         hits: fetch.hits,
-        idle: price.cart_idle,
+        value: price.cart_idle,
+        contents,
     }
 }
 
@@ -327,22 +338,23 @@ fn with_latch(contents: Contents, latch: u32) -> Contents
 }
 
 // A step up to its idle cycles.
-pub fn step(
+fn begin(
     clock: Clock,
     contents: Contents,
     halves: &[u16; 8],
     waits: [[u8; 2]; 3],
-    x: Step,
+    step: Step,
     store: &mut [u8],
     bios: &[u8],
     rom: &[u8],
     lengths: Lengths,
-) -> Stepped
-    requires { ⌜ (waits ≡ romWaits (clock .waitcnt)) × (clock .prefetch .head < 8) × (lengthsSum lengths ≡ length (now store)) ⌝ }
-    ensures { λ r. ⌜ r ≡ def.steppedOf (def.mediaFrom (now (bios .entry)) (now (rom .entry)) lengths) (def.stateFrom clock (now (halves .entry)) contents (now (store .entry))) x ⌝ }
-    ensures { λ r. ⌜ now (store .exit) ≡ machine.storeAfter (def.mediaFrom (now (bios .entry)) (now (rom .entry)) lengths) (def.stateFrom clock (now (halves .entry)) contents (now (store .entry))) x ⌝ }
+) -> Begun
+    requires { ⌜ Runnable clock waits lengths (now store) ⌝ }
+    ensures { λ r. ⌜ def.Begins (def.mediaFrom (now (bios .entry)) (now (rom .entry)) lengths)
+        (def.stateFrom clock (now (halves .entry)) contents (now (store .entry)))
+        step r (now (store .exit)) ⌝ }
 {
-    match x {
+    match step {
         Step::Read(size, addr) => read_step(
             clock,
             contents,
@@ -364,14 +376,68 @@ pub fn step(
             store,
             lengths,
         ),
-        Step::Waitcnt(value) => quiet(set_waitcnt(clock, value), contents, 0, 0),
-        Step::Idle(n) => quiet(clock, contents, n, n),
+        Step::Waitcnt(value) => unanswered(set_waitcnt(clock, value), contents, 0, 0),
+        Step::Idle(cycles) => unanswered(clock, contents, cycles, cycles),
         Step::Fetch(addr) => fetch_step(clock, contents, halves, addr),
-        Step::Restart(addr) => quiet(restarted(clock, waits, addr), contents, 0, 0),
+        Step::Restart(addr) => unanswered(restarted(clock, waits, addr), contents, 0, 0),
         Step::Instruction(isa, addr, opcode, pc_changed) => {
             instruction_step(clock, contents, waits, isa, addr, opcode, pc_changed)
         }
-        Step::Pc(addr) => quiet(clock, with_pc(contents, addr), 0, 0),
-        Step::Latch(value) => quiet(clock, with_latch(contents, value), 0, 0),
+        Step::Pc(addr) => unanswered(clock, with_pc(contents, addr), 0, 0),
+        Step::Latch(value) => unanswered(clock, with_latch(contents, value), 0, 0),
+    }
+}
+
+// What a step leaves besides the halfwords and the store, and its answer.
+pub struct Stepped {
+    pub clock: Clock,
+    pub contents: Contents,
+    pub answer: Answer,
+}
+
+// A step whole. Its idle cycles are ticked here, at one place for every kind: they come after all else that it does to the clock.
+pub fn take_step(
+    clock: Clock,
+    contents: Contents,
+    waits: [[u8; 2]; 3],
+    halves: &mut [u16; 8],
+    step: Step,
+    store: &mut [u8],
+    bios: &[u8],
+    rom: &[u8],
+    lengths: Lengths,
+) -> Stepped
+    requires { ⌜ Runnable clock waits lengths (now store) ⌝ }
+    ensures { λ r. ⌜ def.Steps (def.mediaFrom (now (bios .entry)) (now (rom .entry)) lengths)
+        (def.stateFrom clock (now (halves .entry)) contents (now (store .entry)))
+        step r (now (halves .exit)) (now (store .exit)) ⌝ }
+{
+    let begun = begin(
+        clock,
+        contents,
+        halves,
+        waits,
+        step,
+        store,
+        bios,
+        rom,
+        lengths,
+    );
+    let before = begun.clock;
+    let buffer = before.prefetch;
+    let prefetch = prefetch::tick_idle(buffer, halves, begun.idle, waits, rom);
+    let after = with_prefetch(before, prefetch);
+    let contents = begun.contents;
+    let answer = Answer {
+        value: begun.value,
+        cycles: begun.cycles,
+        hits: begun.hits,
+        count: (prefetch.count % 256) as u8,
+        force: after.force_next_fetch_n,
+    };
+    Stepped {
+        clock: after,
+        contents,
+        answer,
     }
 }

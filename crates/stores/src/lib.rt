@@ -1,42 +1,35 @@
-// The bus's stores of 1, 2 and 4 bytes to the lent memories, which are parts of one store, with their lengths beside it. Port of
-// the stores of src/bus/mod.rs (`Bus as CpuMem`). Each gives the video halfwords that its caller adds to the region's counter.
+// The bus's stores of 1, 2 and 4 bytes to the lent memories, which are parts of one store. Port of the stores of src/bus/mod.rs
+// (`Bus as CpuMem`). A store goes on from the memory that its address meets, which the caller has decoded, and reports the video
+// halfwords that it counts.
 use model::AccessSize;
 use model::Lengths;
-use model::Offset;
-use model::Region;
-use parts::Part;
+use model::Part;
+use model::Target;
+use model::VideoMemory;
 use parts::byte_in;
 use parts::lane;
 use parts::put;
 use parts::put_half;
-use region::decode;
-use region::is_sram;
-use region::mirror::ewram_offset;
-use region::mirror::io_offset;
-use region::mirror::iwram_offset;
-use region::mirror::oam_offset;
-use region::mirror::palette_offset;
-use region::mirror::sram_window_offset;
-use region::mirror::vram_offset;
+use parts::put_word;
 use video::VideoTarget;
 use video::VideoWriteAction;
 use video::VramTarget;
+use waits::size_bytes;
 ghost use mathlib.Core.Path.{_≡_};
-ghost use mathlib.Core.List.{[]};
-ghost use Prim.Native.Nat.{_+_, _≤_};
+ghost use Prim.Native.Nat.{_+_, _^_, _≤_, _<_};
 ghost use lib.ListN.{length};
-ghost use Rattle.model.specs.Base.{if_then_else_, bit};
-ghost use Rattle.model.specs.Mirror.{sramOffset};
-ghost use Rattle.model.specs.Load.{lengthsSum, sramPart};
-ghost use Rattle.model.specs.Store.{landed, put, putHalf, target, targetIn, modeOf, puts8At, puts8, puts16At, puts16, puts32, puts, videoCount, counted};
-ghost use Rattle.model.specs.declared.Region.the-variants.{Io, Vram};
-ghost use Rattle.model.specs.declared.AccessSize.the-variants.{Byte, Half, Word};
-ghost use Rattle.parts.specs.Part.{partOf};
-ghost use Rattle.video.specs.Video.{fillsHalfword};
+ghost use Rattle.model.specs.Memory.{lengthsSum};
+ghost use Rattle.model.specs.Wait.{sizeBytes};
+ghost use Rattle.model.specs.Video.{fills};
+ghost use Rattle.model.specs.Store as def;
+ghost use Rattle.stores.specs.Stored.{Filled, StoredAt, Storable};
+ghost use Rattle.model.specs.declared.VideoMemory.the-variants.{VideoRam};
+ghost use Rattle.model.specs.declared.Target.the-variants.{Video};
+ghost use Rattle.video.specs.Actions.{fillsHalfword};
 
 // A counter stops at its greatest number.
 pub fn saturating_add(a: u64, b: u64) -> u64
-    ensures { λ r. ⌜ r ≡ counted a b ⌝ }
+    ensures { λ r. ⌜ r ≡ def.counted a b ⌝ }
 {
     if b <= 0xFFFF_FFFF_FFFF_FFFF - a {
         a + b
@@ -48,30 +41,45 @@ pub fn saturating_add(a: u64, b: u64) -> u64
 // The display mode.
 fn dispcnt_bg_mode(store: &[u8], lengths: Lengths) -> u8
     requires { ⌜ lengthsSum lengths ≡ length (now store) ⌝ }
-    ensures { λ r. ⌜ r ≡ modeOf lengths (now (store .entry)) ⌝ }
+    ensures { λ r. ⌜ r ≡ def.modeOf lengths (now (store .entry)) ⌝ }
 {
     byte_in(store, parts::io(lengths), 0) % 8
 }
 
-// A store does not repeat at the chip's length.
-fn write_sram8(addr: u32, value: u8, store: &mut [u8], lengths: Lengths)
-    requires { ⌜ lengthsSum lengths ≡ length (now store) ⌝ }
-    ensures { λ r. ⌜ now (store .exit) ≡ landed (now (store .entry)) (put (sramPart lengths) (sramOffset addr) value) ⌝ }
+// What stands at a place of VRAM, by the display mode of this moment.
+fn vram_target(index: usize, store: &[u8], lengths: Lengths) -> VideoTarget
+    requires { ⌜ (lengthsSum lengths ≡ length (now store)) × (index < 2 ^ 32) ⌝ }
+    ensures { λ r. ⌜ fillsHalfword r ≡ fills (def.modeOf lengths (now (store .entry))) VideoRam index ⌝ }
 {
-    put(store, parts::sram(lengths), sram_window_offset(addr), value)
+    let mode = dispcnt_bg_mode(store, lengths);
+    let VramTarget::Within(target) = video::classify_vram_offset(index as u32, mode) else {
+        return VideoTarget::ObjVram;
+    };
+    target
+}
+
+// What video.rs calls a memory.
+fn video_target(memory: VideoMemory, index: usize, store: &[u8], lengths: Lengths) -> VideoTarget
+    requires { ⌜ (lengthsSum lengths ≡ length (now store)) × (index < 2 ^ 32) ⌝ }
+    ensures { λ r. ⌜ fillsHalfword r ≡ fills (def.modeOf lengths (now (store .entry))) memory index ⌝ }
+{
+    match memory {
+        VideoMemory::PaletteRam => VideoTarget::Palette,
+        VideoMemory::VideoRam => vram_target(index, store, lengths),
+        VideoMemory::ObjectRam => VideoTarget::Oam,
+    }
 }
 
 // A byte store fills its halfword, or is dropped.
-fn write8_video(target: VideoTarget, part: Part, offset: usize, value: u8, store: &mut [u8]) -> u32
+fn write8_video(target: VideoTarget, part: Part, index: usize, value: u8, store: &mut [u8]) -> u32
     requires { ⌜ part .base + part .size ≤ length (now store) ⌝ }
-    ensures { λ r. ⌜ now (store .exit) ≡ landed (now (store .entry)) (if fillsHalfword target then putHalf (partOf part) offset value value else []) ⌝ }
-    ensures { λ r. ⌜ r ≡ bit (fillsHalfword target) ⌝ }
+    ensures { λ r. ⌜ Filled (fillsHalfword target) part index value (now (store .entry)) (now (store .exit)) r ⌝ }
 {
     let action = video::resolve_strb(target, value);
     match action {
         VideoWriteAction::Store => 0,
         VideoWriteAction::ExpandByteToHalfword { halfword } => {
-            put_half(store, part, offset, halfword);
+            put_half(store, part, index, halfword as u32);
             1
         }
         VideoWriteAction::Ignore => 0,
@@ -79,156 +87,71 @@ fn write8_video(target: VideoTarget, part: Part, offset: usize, value: u8, store
     }
 }
 
-// VRAM is split by the display mode of this moment.
-fn write8_vram(addr: u32, value: u8, store: &mut [u8], lengths: Lengths) -> u32
-    requires { ⌜ lengthsSum lengths ≡ length (now store) ⌝ }
-    ensures { λ r. ⌜ now (store .exit) ≡ landed (now (store .entry)) (puts8At (modeOf lengths (now (store .entry))) value (targetIn lengths addr Vram)) ⌝ }
-    ensures { λ r. ⌜ r ≡ videoCount (modeOf lengths (now (store .entry))) Byte (targetIn lengths addr Vram) ⌝ }
-{
-    let offset = vram_offset(addr);
-    let mode = dispcnt_bg_mode(store, lengths);
-    let class = video::classify_vram_offset(offset as u32, mode);
-    let VramTarget::Within(target) = class else {
-        return 0;
-    };
-    write8_video(target, parts::vram(lengths), offset, value, store)
-}
-
-// I/O has gaps, where a store is dropped. No store to it counts.
-fn write8_io(addr: u32, value: u8, store: &mut [u8], lengths: Lengths) -> u32
-    requires { ⌜ lengthsSum lengths ≡ length (now store) ⌝ }
-    ensures { λ r. ⌜ now (store .exit) ≡ landed (now (store .entry)) (puts8At (modeOf lengths (now (store .entry))) value (targetIn lengths addr Io)) ⌝ }
-    ensures { λ r. ⌜ r ≡ videoCount (modeOf lengths (now (store .entry))) Byte (targetIn lengths addr Io) ⌝ }
-{
-    let offset = io_offset(addr);
-    let Offset::At(index) = offset else {
-        return 0;
-    };
-    put(store, parts::io(lengths), index, value);
-    0
-}
-
-fn write16_io(addr: u32, value: u16, store: &mut [u8], lengths: Lengths) -> u32
-    requires { ⌜ lengthsSum lengths ≡ length (now store) ⌝ }
-    ensures { λ r. ⌜ now (store .exit) ≡ landed (now (store .entry)) (puts16At addr value (targetIn lengths addr Io)) ⌝ }
-    ensures { λ r. ⌜ r ≡ videoCount 0 Half (targetIn lengths addr Io) ⌝ }
-{
-    let offset = io_offset(addr);
-    let Offset::At(index) = offset else {
-        return 0;
-    };
-    put_half(store, parts::io(lengths), index, value);
-    0
-}
-
-pub fn write8(addr: u32, value: u8, store: &mut [u8], lengths: Lengths) -> u32
-    requires { ⌜ lengthsSum lengths ≡ length (now store) ⌝ }
-    ensures { λ r. ⌜ now (store .exit) ≡ landed (now (store .entry)) (puts8 lengths (modeOf lengths (now (store .entry))) addr value) ⌝ }
-    ensures { λ r. ⌜ r ≡ videoCount (modeOf lengths (now (store .entry))) Byte (target lengths addr) ⌝ }
-{
-    let region = decode(addr);
-    match region {
-        Region::Bios => 0,
-        Region::UnusedLow => 0,
-        Region::Ewram => {
-            put(store, parts::ewram(lengths), ewram_offset(addr), value);
-            0
-        }
-        Region::Iwram => {
-            put(store, parts::iwram(lengths), iwram_offset(addr), value);
-            0
-        }
-        Region::Io => write8_io(addr, value, store, lengths),
-        Region::Palette => write8_video(
-            VideoTarget::Palette,
-            parts::palette(lengths),
-            palette_offset(addr),
-            value,
-            store,
-        ),
-        Region::Vram => write8_vram(addr, value, store, lengths),
-        Region::Oam => 0,
-        Region::GamePakRomWs0 => 0,
-        Region::GamePakRomWs1 => 0,
-        Region::GamePakRomWs2 => 0,
-        Region::GamePakSram => {
-            write_sram8(addr, value, store, lengths);
-            0
-        }
-        Region::UnusedHigh => 0,
-    }
-}
-
-// A halfword is stored whole, aligned, and not by the byte path, whose rules differ in video memory. Elsewhere the Rust stores
-// its two bytes one by one, which is the same. SRAM takes one byte.
-pub fn write16(addr: u32, value: u16, store: &mut [u8], lengths: Lengths) -> u32
-    requires { ⌜ lengthsSum lengths ≡ length (now store) ⌝ }
-    ensures { λ r. ⌜ now (store .exit) ≡ landed (now (store .entry)) (puts16 lengths addr value) ⌝ }
-    ensures { λ r. ⌜ r ≡ videoCount 0 Half (target lengths addr) ⌝ }
-{
-    let region = decode(addr);
-    match region {
-        Region::Bios => 0,
-        Region::UnusedLow => 0,
-        Region::Ewram => {
-            put_half(store, parts::ewram(lengths), ewram_offset(addr), value);
-            0
-        }
-        Region::Iwram => {
-            put_half(store, parts::iwram(lengths), iwram_offset(addr), value);
-            0
-        }
-        Region::Io => write16_io(addr, value, store, lengths),
-        Region::Palette => {
-            put_half(store, parts::palette(lengths), palette_offset(addr), value);
-            1
-        }
-        Region::Vram => {
-            put_half(store, parts::vram(lengths), vram_offset(addr), value);
-            1
-        }
-        Region::Oam => {
-            put_half(store, parts::oam(lengths), oam_offset(addr), value);
-            1
-        }
-        Region::GamePakRomWs0 => 0,
-        Region::GamePakRomWs1 => 0,
-        Region::GamePakRomWs2 => 0,
-        Region::GamePakSram => {
-            write_sram8(addr, lane(value as u32, addr % 2), store, lengths);
-            0
-        }
-        Region::UnusedHigh => 0,
-    }
-}
-
-// Two halfword stores, aligned; SRAM takes one byte.
-pub fn write32(addr: u32, value: u32, store: &mut [u8], lengths: Lengths) -> u32
-    requires { ⌜ lengthsSum lengths ≡ length (now store) ⌝ }
-    ensures { λ r. ⌜ now (store .exit) ≡ landed (now (store .entry)) (puts32 lengths addr value) ⌝ }
-    ensures { λ r. ⌜ r ≡ videoCount 0 Word (target lengths addr) ⌝ }
-{
-    let region = decode(addr);
-    if is_sram(region) {
-        write_sram8(addr, lane(value, addr % 4), store, lengths);
-        return 0;
-    }
-    let aligned = addr / 4 * 4;
-    let next = std::num::wrapping_add_u32(aligned, 2);
-    let low = write16(aligned, (value % 0x1_0000) as u16, store, lengths);
-    let high = write16(next, (value / 0x1_0000 % 0x1_0000) as u16, store, lengths);
-    low + high
-}
-
-// The three, by the size; the value's low bits are stored.
-pub fn write(size: AccessSize, addr: u32, value: u32, store: &mut [u8], lengths: Lengths) -> u32
-    requires { ⌜ lengthsSum lengths ≡ length (now store) ⌝ }
-    ensures { λ r. ⌜ now (store .exit) ≡ landed (now (store .entry)) (puts lengths (modeOf lengths (now (store .entry))) size addr value) ⌝ }
-    ensures { λ r. ⌜ r ≡ videoCount (modeOf lengths (now (store .entry))) size (target lengths addr) ⌝ }
+fn write_video(
+    size: AccessSize,
+    memory: VideoMemory,
+    part: Part,
+    index: usize,
+    value: u32,
+    store: &mut [u8],
+    lengths: Lengths,
+) -> u32
+    requires { ⌜ Storable (Video memory part index) lengths (now store) ⌝ }
+    ensures { λ r. ⌜ StoredAt size 0 value (Video memory part index) lengths (now (store .entry)) (now (store .exit)) r ⌝ }
 {
     match size {
-        AccessSize::Byte => write8(addr, (value % 256) as u8, store, lengths),
-        AccessSize::Half => write16(addr, (value % 0x1_0000) as u16, store, lengths),
-        AccessSize::Word => write32(addr, value, store, lengths),
+        AccessSize::Byte => {
+            let target = video_target(memory, index, store, lengths);
+            write8_video(target, part, index, (value % 256) as u8, store)
+        }
+        AccessSize::Half => {
+            put_half(store, part, index, value);
+            1
+        }
+        AccessSize::Word => {
+            put_word(store, part, index, value);
+            2
+        }
+    }
+}
+
+fn write_plain(size: AccessSize, part: Part, index: usize, value: u32, store: &mut [u8])
+    requires { ⌜ part .base + part .size ≤ length (now store) ⌝ }
+    ensures { λ _. ⌜ now (store .exit) ≡ def.landed (now (store .entry)) (def.putAligned part index (sizeBytes size) value) ⌝ }
+{
+    match size {
+        AccessSize::Byte => put(store, part, index, (value % 256) as u8),
+        AccessSize::Half => put_half(store, part, index, value),
+        AccessSize::Word => put_word(store, part, index, value),
+    }
+}
+
+// `write8`, `write16`, `write32`, by the size; the value's low bits are stored.
+pub fn write(
+    size: AccessSize,
+    target: Target,
+    addr: u32,
+    value: u32,
+    store: &mut [u8],
+    lengths: Lengths,
+) -> u32
+    requires { ⌜ Storable target lengths (now store) ⌝ }
+    ensures { λ r. ⌜ StoredAt size addr value target lengths (now (store .entry)) (now (store .exit)) r ⌝ }
+{
+    match target {
+        Target::Unused => 0,
+        Target::SystemRom => 0,
+        Target::GamePakRom => 0,
+        Target::Plain(part, index) => {
+            write_plain(size, part, index, value, store);
+            0
+        }
+        Target::Video(memory, part, index) => {
+            write_video(size, memory, part, index, value, store, lengths)
+        }
+        Target::Sram(part, index) => {
+            put(store, part, index, lane(value, addr % size_bytes(size)));
+            0
+        }
     }
 }

@@ -11,12 +11,11 @@ use model::RomWindow;
 use model::TimingInput;
 use model::Windowed;
 ghost use mathlib.Core.Path.{_≡_};
-ghost use Rattle.model.specs.Base.{bit};
-ghost use Rattle.model.specs.Region.{decode};
-ghost use Rattle.model.specs.Wait.{nonseqIf, window as windowOf};
-ghost use Rattle.model.specs.Price as price;
+ghost use Rattle.model.specs.Wait.{window as windowOf};
+ghost use Rattle.model.specs.Price.{beatCycles, price, romAccess, dataBeatsIn};
 ghost use Rattle.model.specs.Timing as def;
 ghost use Rattle.model.specs.Laws.Bounds.{SmallWaits};
+ghost use Rattle.timing.specs.Fetch.{PlainPrice, fetchPrice};
 
 pub mod disable_bug;
 
@@ -36,15 +35,6 @@ fn had_internal(isa: IsaState, raw: u32) -> bool
     }
 }
 
-fn kind_by_flag(force: bool) -> AccessKind
-    ensures { λ r. ⌜ r ≡ nonseqIf force ⌝ }
-{
-    if force {
-        return AccessKind::Nonseq;
-    }
-    AccessKind::Seq
-}
-
 // One half from ROM: a hit on the buffer's head costs 1; else the address as given decides, with the window it is priced by.
 fn price_rom_half(
     addr: u32,
@@ -53,7 +43,7 @@ fn price_rom_half(
     waits: [[u8; 2]; 3],
     prefetch: PrefetchBuffer,
 ) -> u32
-    ensures { λ r. ⌜ r ≡ def.romHalf waits prefetch addr window kind ⌝ }
+    ensures { λ r. ⌜ r ≡ beatCycles waits (def.halfBeat prefetch addr window kind) ⌝ }
 {
     if prefetch::hits(prefetch, addr) {
         return prefetch::hit_cycles();
@@ -71,7 +61,7 @@ fn price_rom(
     prefetch: PrefetchBuffer,
 ) -> u32
     requires { ⌜ SmallWaits waits ⌝ }
-    ensures { λ r. ⌜ r ≡ def.romFetch waits prefetch addr window kind isa ⌝ }
+    ensures { λ r. ⌜ r ≡ price waits (def.romBeats prefetch addr window kind isa) ⌝ }
 {
     let first = price_rom_half(addr, window, kind, waits, prefetch);
     match isa {
@@ -83,9 +73,9 @@ fn price_rom(
     }
 }
 
-// An opcode from elsewhere.
+// An opcode from elsewhere: its beat costs the same under all waits.
 fn price_plain(addr: u32, isa: IsaState) -> u32
-    ensures { λ r. ⌜ r ≡ def.plainFetch addr isa ⌝ }
+    ensures { λ r. ⌜ PlainPrice addr isa r ⌝ }
 {
     if addr / 0x100_0000 != 0x02 {
         return waits::fixed_fast_cycles();
@@ -104,7 +94,7 @@ fn price_fetch(
     prefetch: PrefetchBuffer,
 ) -> FetchPrice
     requires { ⌜ SmallWaits waits ⌝ }
-    ensures { λ r. ⌜ r ≡ record { cycles = def.fetchIn waits prefetch addr kind isa (windowOf addr); «cart_idle» = def.idleIn addr isa (windowOf addr) } ⌝ }
+    ensures { λ r. ⌜ r ≡ fetchPrice waits prefetch addr kind isa ⌝ }
 {
     let Windowed::In(window) = waits::window_from_addr(addr) else {
         let cycles = price_plain(addr, isa);
@@ -120,12 +110,6 @@ fn price_fetch(
     }
 }
 
-fn one_if(b: bool) -> u32
-    ensures { λ r. ⌜ r ≡ bit b ⌝ }
-{
-    if b { 1 } else { 0 }
-}
-
 // The five results of pricing an instruction.
 pub fn price_insn(input: TimingInput, waits: [[u8; 2]; 3], prefetch: PrefetchBuffer) -> InsnCycles
     requires { ⌜ SmallWaits waits ⌝ }
@@ -133,7 +117,7 @@ pub fn price_insn(input: TimingInput, waits: [[u8; 2]; 3], prefetch: PrefetchBuf
 {
     let isa = input.isa;
     let had_i = had_internal(isa, input.opcode_raw);
-    let fetch_kind = kind_by_flag(input.force_fetch_n);
+    let fetch_kind = waits::nonseq_if(input.force_fetch_n);
     let fetch = price_fetch(input.code_addr, fetch_kind, isa, waits, prefetch);
     let code_in_rom = waits::in_window(input.code_addr);
     let latch_disable_bug = disable_bug::force_next_fetch_nonseq(DisableBugInput {
@@ -142,7 +126,7 @@ pub fn price_insn(input: TimingInput, waits: [[u8; 2]; 3], prefetch: PrefetchBuf
         had_internal_cycles: had_i,
         pc_changed: input.pc_changed,
     });
-    let internal = one_if(had_i);
+    let internal = le::bit(had_i) as u32;
     InsnCycles {
         total: fetch.cycles + internal,
         internal,
@@ -154,7 +138,7 @@ pub fn price_insn(input: TimingInput, waits: [[u8; 2]; 3], prefetch: PrefetchBuf
 
 // ROM data: a byte or a half is one beat N, a word N + S.
 fn rom_data_cycles(waits: [[u8; 2]; 3], window: RomWindow, size: AccessSize) -> u32
-    ensures { λ r. ⌜ r ≡ price.romDataCycles waits window size ⌝ }
+    ensures { λ r. ⌜ r ≡ price waits (romAccess size window) ⌝ }
 {
     match size {
         AccessSize::Byte => waits::rom_half_cycles(waits, window, AccessKind::Nonseq),
@@ -164,10 +148,9 @@ fn rom_data_cycles(waits: [[u8; 2]; 3], window: RomWindow, size: AccessSize) -> 
 }
 
 // The price of a data access, by the region of its address; every access is taken as nonsequential.
-pub fn data_cycles(waits: [[u8; 2]; 3], sram_waits: u8, size: AccessSize, addr: u32) -> u32
-    ensures { λ r. ⌜ r ≡ price.priceIn waits «sram_waits» size (decode addr) ⌝ }
+pub fn data_cycles(waits: [[u8; 2]; 3], sram_waits: u8, size: AccessSize, region: Region) -> u32
+    ensures { λ r. ⌜ r ≡ price waits (dataBeatsIn «sram_waits» size region) ⌝ }
 {
-    let region = region::decode(addr);
     match region {
         Region::Bios => waits::fixed_fast_cycles(),
         Region::UnusedLow => waits::fixed_fast_cycles(),

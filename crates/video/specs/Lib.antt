@@ -1,1 +1,2 @@
-pub mod Video
+-- What the contracts of this crate cite, beside the model.
+pub mod Actions

@@ -2,13 +2,14 @@
 use model::AccessSize;
 ghost use mathlib.Core.Path.{_≡_};
 ghost use Rattle.model.specs.Video as rules;
-ghost use Rattle.video.specs.Video as actions;
+ghost use Rattle.video.specs.Actions as actions;
 
 // Object VRAM in the tile modes 0 to 2, and in the bitmap modes.
 pub const OBJ_VRAM_BASE_TILE: u32 = 0x1_0000;
 
 pub const OBJ_VRAM_BASE_BITMAP: u32 = 0x1_4000;
 
+// What a store to video memory meets.
 pub enum VideoTarget {
     Palette,
     Oam,
@@ -22,6 +23,7 @@ pub enum VramTarget {
     Outside,
 }
 
+// What becomes of the store: all of it lands, its byte fills a halfword, it is dropped, or its size is refused.
 pub enum VideoWriteAction {
     Store,
     ExpandByteToHalfword { halfword: u16 },
@@ -29,12 +31,14 @@ pub enum VideoWriteAction {
     Reject,
 }
 
+// A byte in both halves of a halfword.
 pub fn expand_strb_byte(data: u8) -> u16
     ensures { λ r. ⌜ r ≡ actions.doubled «data» ⌝ }
 {
     0x0101 * data as u16
 }
 
+// Where object VRAM starts, by the display mode.
 pub fn obj_vram_base(dispcnt_bg_mode: u8) -> u32
     ensures { λ r. ⌜ r ≡ rules.objVramBase «dispcnt_bg_mode» ⌝ }
 {
@@ -45,6 +49,7 @@ pub fn obj_vram_base(dispcnt_bg_mode: u8) -> u32
     }
 }
 
+// What stands at a place of VRAM.
 pub fn classify_vram_offset(offset: u32, dispcnt_bg_mode: u8) -> VramTarget
     ensures { λ r. ⌜ r ≡ actions.vramClass offset «dispcnt_bg_mode» ⌝ }
 {
@@ -58,7 +63,7 @@ pub fn classify_vram_offset(offset: u32, dispcnt_bg_mode: u8) -> VramTarget
     }
 }
 
-// The same for all targets: the first parameter is the Rust's.
+// Whether video memory takes the size whole. It is the same for all targets: the first parameter is the Rust's.
 pub fn write_size_ok(_target: VideoTarget, size: AccessSize) -> bool
     ensures { λ r. ⌜ r ≡ actions.isWide size ⌝ }
 {
@@ -69,6 +74,7 @@ pub fn write_size_ok(_target: VideoTarget, size: AccessSize) -> bool
     }
 }
 
+// A store of 16 or 32 bits.
 pub fn resolve_wide_write(target: VideoTarget, size: AccessSize) -> VideoWriteAction
     ensures { λ r. ⌜ r ≡ actions.wideAction size ⌝ }
 {
@@ -79,6 +85,7 @@ pub fn resolve_wide_write(target: VideoTarget, size: AccessSize) -> VideoWriteAc
     }
 }
 
+// A store of a byte.
 pub fn resolve_strb(target: VideoTarget, data: u8) -> VideoWriteAction
     ensures { λ r. ⌜ r ≡ actions.byteAction target «data» ⌝ }
 {
@@ -94,6 +101,7 @@ pub fn resolve_strb(target: VideoTarget, data: u8) -> VideoWriteAction
     }
 }
 
+// A store of any size; of a byte, `data_lsb` is the value.
 pub fn resolve_video_write(target: VideoTarget, size: AccessSize, data_lsb: u8) -> VideoWriteAction
     ensures { λ r. ⌜ r ≡ actions.videoAction target size «data_lsb» ⌝ }
 {

@@ -18,26 +18,29 @@ pub const ROM_FORCE_N_BLOCK: u32 = 0x2_0000;
 // EWRAM's waits.
 pub const EWRAM_DEFAULT_WAITS: u8 = 2;
 
-// The waits of the ROM and of SRAM after power-on are made by this type, which holds the SRAM waits.
+// The SRAM waits, as the Rust's `WaitTables` holds them. Ported for completeness: nothing uses it yet.
 pub struct WaitTables {
     pub sram_waits: u8,
 }
 
 impl WaitTables {
+    // Ported for completeness: nothing calls it yet.
     pub fn power_on() -> WaitTables
         ensures { λ r. ⌜ r .«sram_waits» ≡ reg.sramWaits reg.powerOn ⌝ }
     {
         WaitTables::from_waitcnt(WaitCnt::power_on())
     }
 
-    pub fn from_waitcnt(wc: WaitCnt) -> WaitTables
-        ensures { λ r. ⌜ r .«sram_waits» ≡ reg.sramWaits (wc .raw) ⌝ }
+    // Ported for completeness: nothing calls it yet but `power_on`.
+    pub fn from_waitcnt(register: WaitCnt) -> WaitTables
+        ensures { λ r. ⌜ r .«sram_waits» ≡ reg.sramWaits (register .raw) ⌝ }
     {
         WaitTables {
-            sram_waits: wc.sram_waits(),
+            sram_waits: register.sram_waits(),
         }
     }
 
+    // Ported for completeness: nothing calls it yet.
     pub fn rom_power_on() -> [[u8; 2]; 3]
         ensures { λ r. ⌜ r ≡ reg.romWaits reg.powerOn ⌝ }
     {
@@ -46,15 +49,15 @@ impl WaitTables {
 }
 
 // The waits of the ROM: three windows by two kinds, nonsequential and sequential.
-pub fn rom_waits(wc: WaitCnt) -> [[u8; 2]; 3]
-    ensures { λ r. ⌜ r ≡ reg.romWaits (wc .raw) ⌝ }
+pub fn rom_waits(register: WaitCnt) -> [[u8; 2]; 3]
+    ensures { λ r. ⌜ r ≡ reg.romWaits (register .raw) ⌝ }
 {
-    let n0 = wc.rom_n_waits(RomWindow::Ws0);
-    let s0 = wc.rom_s_waits(RomWindow::Ws0);
-    let n1 = wc.rom_n_waits(RomWindow::Ws1);
-    let s1 = wc.rom_s_waits(RomWindow::Ws1);
-    let n2 = wc.rom_n_waits(RomWindow::Ws2);
-    let s2 = wc.rom_s_waits(RomWindow::Ws2);
+    let n0 = register.rom_n_waits(RomWindow::Ws0);
+    let s0 = register.rom_s_waits(RomWindow::Ws0);
+    let n1 = register.rom_n_waits(RomWindow::Ws1);
+    let s1 = register.rom_s_waits(RomWindow::Ws1);
+    let n2 = register.rom_n_waits(RomWindow::Ws2);
+    let s2 = register.rom_s_waits(RomWindow::Ws2);
     [[n0, s0], [n1, s1], [n2, s2]]
 }
 
@@ -80,7 +83,7 @@ pub fn in_window(addr: u32) -> bool
     }
 }
 
-// `AccessSize::bytes`.
+// `AccessSize::bytes`. Ported for completeness: nothing calls it yet but `classify_access`.
 pub fn size_bytes(size: AccessSize) -> u32
     ensures { λ r. ⌜ r ≡ def.sizeBytes size ⌝ }
 {
@@ -91,19 +94,33 @@ pub fn size_bytes(size: AccessSize) -> u32
     }
 }
 
+// An access takes one cycle and its waits.
 pub fn cycles_for_waits(waitstates: u8) -> u32
     ensures { λ r. ⌜ r ≡ def.cyclesForWaits waitstates ⌝ }
 {
     1 + waitstates as u32
 }
 
+// Whether a halfword starts a block, and so is nonsequential.
 pub fn rom_force_nonseq(addr: u32) -> bool
     ensures { λ r. ⌜ r ≡ def.forceNonseq addr ⌝ }
 {
     addr % ROM_FORCE_N_BLOCK == 0
 }
 
-// The kind of an access that follows one of size `prev_size` at `prev_addr`.
+// The kind of an access, by whether it is the first of a row.
+pub fn nonseq_if(first: bool) -> AccessKind
+    ensures { λ r. ⌜ r ≡ def.nonseqIf first ⌝ }
+{
+    if first {
+        AccessKind::Nonseq
+    } else {
+        AccessKind::Seq
+    }
+}
+
+// The kind of an access that follows one of size `prev_size` at `prev_addr`. Ported for completeness: nothing calls it yet;
+// the runs of data accesses to come will.
 pub fn classify_access(
     prev_addr: u32,
     prev_size: AccessSize,
@@ -124,6 +141,7 @@ pub fn classify_access(
     AccessKind::Nonseq
 }
 
+// A window's row in the waits of the ROM.
 fn window_index(window: RomWindow) -> usize
     ensures { λ r. ⌜ r ≡ def.windowIndex window ⌝ }
 {
@@ -134,6 +152,7 @@ fn window_index(window: RomWindow) -> usize
     }
 }
 
+// A kind's column in the waits of the ROM.
 fn kind_index(kind: AccessKind) -> usize
     ensures { λ r. ⌜ r ≡ def.kindIndex kind ⌝ }
 {
@@ -143,12 +162,13 @@ fn kind_index(kind: AccessKind) -> usize
     }
 }
 
+// The waits of one halfword from ROM.
 pub fn rom_half_waits(waits: [[u8; 2]; 3], window: RomWindow, kind: AccessKind) -> u8
     ensures { λ r. ⌜ r ≡ def.romHalfWaits waits window kind ⌝ }
 {
-    let i = window_index(window);
-    let j = kind_index(kind);
-    waits[i][j]
+    let row = window_index(window);
+    let column = kind_index(kind);
+    waits[row][column]
 }
 
 // One halfword from ROM.
@@ -158,7 +178,7 @@ pub fn rom_half_cycles(waits: [[u8; 2]; 3], window: RomWindow, kind: AccessKind)
     cycles_for_waits(rom_half_waits(waits, window, kind))
 }
 
-// A word from ROM: two beats, the second sequential.
+// A word from ROM: two beats, the second sequential. The sum is over waits, which are bytes, so that it fits.
 pub fn rom_word_cycles(waits: [[u8; 2]; 3], window: RomWindow, first: AccessKind) -> u32
     ensures { λ r. ⌜ r ≡ def.romWordCycles waits window first ⌝ }
 {
@@ -183,12 +203,14 @@ pub fn rom_half_cycles_at(
     }
 }
 
+// SRAM's bus has 8 bits: each access is one byte's.
 pub fn sram_byte_cycles(sram_waits: u8) -> u32
     ensures { λ r. ⌜ r ≡ def.sramByteCycles «sram_waits» ⌝ }
 {
     cycles_for_waits(sram_waits)
 }
 
+// Two waits on a bus of 16 bits: a word takes two beats.
 pub fn ewram_cycles(size: AccessSize) -> u32
     ensures { λ r. ⌜ r ≡ def.ewramCycles size ⌝ }
 {
@@ -200,12 +222,14 @@ pub fn ewram_cycles(size: AccessSize) -> u32
     }
 }
 
+// BIOS, IWRAM, the registers and OAM have no waits.
 pub fn fixed_fast_cycles() -> u32
     ensures { λ r. ⌜ r ≡ def.fixedFastCycles ⌝ }
 {
     1
 }
 
+// Palette and VRAM: no waits on a bus of 16 bits.
 pub fn video_ram_cycles(size: AccessSize) -> u32
     ensures { λ r. ⌜ r ≡ def.videoRamCycles size ⌝ }
 {

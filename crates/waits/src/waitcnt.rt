@@ -4,12 +4,14 @@ use model::RomWindow;
 ghost use mathlib.Core.Path.{_≡_};
 ghost use Rattle.model.specs.Waitcnt as def;
 
-// The value after power-on.
+// The value after power-on. Ported for completeness: only `WaitCnt::power_on` uses it.
 pub const POWER_ON: u16 = 0x0000;
 
-// A setting that commercial cartridges use: WS0 3 and 1, SRAM 8, WS2 8 and 8, prefetch on.
+// A setting that commercial cartridges use: WS0 3 and 1, SRAM 8, WS2 8 and 8, prefetch on. Ported for completeness: nothing
+// uses it yet.
 pub const COMMERCIAL_COMMON: u16 = 0x4317;
 
+// The register.
 pub struct WaitCnt {
     pub raw: u16,
 }
@@ -34,13 +36,14 @@ fn s_waits(slow: u8, bits: u16) -> u8
 }
 
 impl WaitCnt {
+    // Ported for completeness: nothing calls it yet but `WaitTables`.
     pub fn power_on() -> WaitCnt
         ensures { λ r. ⌜ r .raw ≡ def.powerOn ⌝ }
     {
         WaitCnt { raw: POWER_ON }
     }
 
-    // The register that holds a value: bit 13 is cleared.
+    // The register that holds a value: bit 13 is cleared. Ported for completeness: nothing calls it yet.
     pub fn from_u16(value: u16) -> WaitCnt
         ensures { λ r. ⌜ r .raw ≡ def.fromU16 value ⌝ }
     {
@@ -58,13 +61,14 @@ impl WaitCnt {
         }
     }
 
-    // Bit 15: the cartridge's type, from its pin.
+    // Bit 15: the cartridge's type, from its pin. Ported for completeness: nothing calls it yet.
     pub fn cart_type_cgb(self) -> bool
         ensures { λ r. ⌜ r ≡ def.cartTypeCgb (self .raw) ⌝ }
     {
         self.raw / 0x8000 % 2 == 1
     }
 
+    // Ported for completeness: nothing calls it yet.
     pub fn set_cart_type_cgb(self, cgb: bool) -> WaitCnt
         ensures { λ r. ⌜ r .raw ≡ def.setCartTypeCgb cgb (self .raw) ⌝ }
     {
@@ -83,6 +87,7 @@ impl WaitCnt {
         self.raw / 0x4000 % 2 == 1
     }
 
+    // Ported for completeness: nothing calls it yet.
     pub fn set_prefetch_enable(self, enable: bool) -> WaitCnt
         ensures { λ r. ⌜ r .raw ≡ def.setPrefetchEnable enable (self .raw) ⌝ }
     {
@@ -94,14 +99,14 @@ impl WaitCnt {
         }
     }
 
-    // Bits 11 and 12: the PHI terminal.
+    // Bits 11 and 12: the PHI terminal. Ported for completeness: nothing calls it yet.
     pub fn phi_out(self) -> u8
         ensures { λ r. ⌜ r ≡ def.phiOut (self .raw) ⌝ }
     {
         (self.raw / 0x800 % 4) as u8
     }
 
-    // Bits 0 and 1.
+    // The waits of SRAM: bits 0 and 1.
     pub fn sram_waits(self) -> u8
         ensures { λ r. ⌜ r ≡ def.sramWaits (self .raw) ⌝ }
     {

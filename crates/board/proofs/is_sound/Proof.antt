@@ -1,4 +1,4 @@
--- `records::board::is_sound` meets its contract: the length is told first; the rest is the definition. Assumes nothing.
+-- `board::is_sound` meets its contract: the length is told first; the rest is the definition. Assumes nothing.
 use borrow.Author.Needs.{needs}
 use borrow.Author.Tests.{ne-eqb, eq-eqb}
 use Rattle.model.specs.BoardBytes.{sound}
@@ -9,15 +9,6 @@ returns : tie.Need-returns
 unfolding sound
 returns c = simp (ne-eqb _ _ (c .if1 .taken))
 
-load-clock-requires : tie.Need-load-clock-requires
-load-clock-requires c κs = search needs
-
-sound-bytes-requires : tie.Need-sound-bytes-requires
-sound-bytes-requires c κs = search needs
-
-sound-prefetch-requires : tie.Need-sound-prefetch-requires
-sound-prefetch-requires c κs = search needs
-
 returns-2 : tie.Need-returns-2
 unfolding sound
 returns-2 c =
@@ -25,6 +16,4 @@ returns-2 c =
     simp (long, c .before .before .load-clock .ensures, c .before .sound-bytes .ensures, c .sound-prefetch .ensures)
 
 pub is-sound-spec : {M : Type 1} → statement M
-is-sound-spec =
-    tie.close
-    (tie.spec returns load-clock-requires sound-bytes-requires sound-prefetch-requires returns-2)
+is-sound-spec = tie.close (tie.spec returns (search needs) (search needs) (search needs) returns-2)

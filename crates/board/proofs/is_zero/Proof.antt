@@ -1,4 +1,4 @@
--- `records::board::is_zero` meets its contract: the body is the definition. Assumes nothing.
+-- `board::is_zero` meets its contract: the body is the definition. Assumes nothing.
 use mathlib.Core.Path.{refl}
 use Rattle.model.specs.BoardBytes.{isZero}
 use Rattle.board.proofs.is_zero.Statement.{statement}

@@ -1,56 +1,36 @@
--- `records::board::put_clock` meets its contract: flags and words stand one behind the other. Assumes nothing.
-use mathlib.Core.Path.{refl}
-use native.Mathlib.Omega.{arith}
+-- `board::put_clock` meets its contract: the flags and three words stand one behind the other. Assumes nothing.
+use mathlib.Core.List.{[], _∷_}
 use borrow.Author.Needs.{needs}
-use Rattle.le.proofs.Written.{begin, next, written}
+use Rattle.le.proofs.Written.{filled, lent}
 use Rattle.board.proofs.put_clock.Statement.{statement}
 use Rattle.board.proofs.put_clock.Tie as tie
 
-sub-put-flags : tie.Need-sub-put-flags
-sub-put-flags c = search needs
+-- the places behind each part, and the start
+abbrev last : tie.After-slice-known4 → tie.After-put32
+last c = c .before .before
 
-part-put-flags-start : tie.Need-part-put-flags-start
-part-put-flags-start c = search needs
+abbrev pair : tie.After-put32 → tie.After-put-pair
+pair c = c .before .before .before .before
 
-part-put-flags-end : tie.Need-part-put-flags-end
-part-put-flags-end c = search needs
+abbrev flags : tie.After-put-pair → tie.After-put-flags
+flags c = c .before .before .before .before
 
-put-flags-requires : tie.Need-put-flags-requires
-put-flags-requires c κs = search needs
-
-sub-put-words : tie.Need-sub-put-words
-sub-put-words c = search needs
-
-part-put-words-start : tie.Need-part-put-words-start
-part-put-words-start c = search needs
-
-part-put-words-end : tie.Need-part-put-words-end
-part-put-words-end c = search needs
-
-put-words-requires : tie.Need-put-words-requires
-put-words-requires c κs = search needs
-
-same-length : tie.Need-same-length
-same-length c = search needs
+abbrev entry : tie.After-put-flags → tie.Start
+entry c = c .before .before .before .before
 
 returns : tie.Need-returns
 returns c =
-    let s = c .before .before .before .before .before .before .before .before .before in
-    let start = begin (s .args .out .now) (s .pre) in
-    let flags = next start 8 (c .before .before .before .before .before .before .put-flags .ensures) refl (omega arith) in
-    written (next flags 12 (c .before .before .put-words .ensures) refl (omega arith))
+    let word = last c in
+    let two = pair word in
+    let front = flags two in
+    let s = entry front in
+    filled (s .args .out .now)
+    (lent (front .put-flags .ensures) ∷ lent (two .put-pair .ensures) ∷ lent (word .put32 .ensures) ∷ [])
+    (s .pre)
 
 pub put-clock-spec : {M : Type 1} → statement M
 put-clock-spec =
     tie.close
-    (tie.spec
-    sub-put-flags
-    part-put-flags-start
-    part-put-flags-end
-    put-flags-requires
-    sub-put-words
-    part-put-words-start
-    part-put-words-end
-    put-words-requires
-    same-length
-    returns)
+    (tie.spec (search needs) (search needs) (search needs) (search needs) (search needs) (search needs)
+    (search needs) (search needs) (search needs) (search needs) (search needs) (search needs)
+    (λ c. search needs) returns)

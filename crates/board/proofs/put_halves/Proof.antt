@@ -1,4 +1,4 @@
--- `records::board::put_halves` meets its contract: i halfwords are written, and each turn puts the next behind them. Assumes nothing.
+-- `board::put_halves` meets its contract: i halfwords are written, and each turn puts the next behind them. Assumes nothing.
 use mathlib.Core.Path.{_≡_, _∙_, refl, ap}
 use mathlib.Core.List.{List, [], _∷_, _++_}
 use Prim.Native.Nat.{ℕ, _+_, _-_, _*_, _≤_, _<_}
@@ -23,7 +23,8 @@ half-more hs i h = rw (add-one, take-suc hs i 0) (half-snoc (take i hs) (getD hs
 
 -- one halfword more
 half-next : {n : ℕ} {l x : List ℕ} (hs : List ℕ) (i : ℕ) → i < length hs → 2 * i + 2 ≤ n → x ≡ bytes 2 (getD hs i 0)
-    → Begun n l (2 * i) (halfBytes (take i hs)) → Begun n (putMid (2 * i) (2 * i + 2 - 2 * i) l x) (2 * (i + 1)) (halfBytes (take (i + 1) hs))
+    → Begun n l (2 * i) (halfBytes (take i hs))
+    → Begun n (putMid (2 * i) (2 * i + 2 - 2 * i) l x) (2 * (i + 1)) (halfBytes (take (i + 1) hs))
 half-next hs i h m e g =
     let z : 2 * i + 2 - 2 * i ≡ 2 = omega arith in
     let a : 2 * (i + 1) ≡ 2 * i + 2 = omega arith in
@@ -38,68 +39,29 @@ abbrev μ-loop : tie.MeasureT-loop
 loop-holds : tie.Need-loop-holds Inv-loop μ-loop
 loop-holds c = (omega arith, search needs, begin (c .before .args .out .now) (c .before .pre))
 
-mul-at : tie.Need-mul-at Inv-loop μ-loop
-mul-at c = omega arith
+-- the loop that a turn is of, and the halfwords
+abbrev loop : tie.After-put16 Inv-loop μ-loop → tie.At-loop Inv-loop μ-loop
+loop c = c .before .before .before
 
-add-put16 : tie.Need-add-put16 Inv-loop μ-loop
-add-put16 c = omega arith
-
-sub-put16 : tie.Need-sub-put16 Inv-loop μ-loop
-sub-put16 c = omega arith
-
-part-put16-start : tie.Need-part-put16-start Inv-loop μ-loop
-part-put16-start c = omega arith
-
-part-put16-end : tie.Need-part-put16-end Inv-loop μ-loop
-part-put16-end c = omega arith
-
-mul-put16 : tie.Need-mul-put16 Inv-loop μ-loop
-mul-put16 c = omega arith
-
-array-read-put16 : tie.Need-array-read-put16 Inv-loop μ-loop
-array-read-put16 c = omega arith
-
-put16-requires : tie.Need-put16-requires Inv-loop μ-loop
-put16-requires c κs = search needs
-
-add-i : tie.Need-add-i Inv-loop μ-loop
-add-i c = omega arith
-
-loop-less : tie.Need-loop-less Inv-loop μ-loop
-loop-less c = omega arith
+abbrev halves : tie.At-loop Inv-loop μ-loop → List ℕ
+halves c = c .before .before .args .t2
 
 loop-again : tie.Need-loop-again Inv-loop μ-loop
 loop-again c =
-    let l = c .before .before .before .before .before in
-    let g = l .loop .inv in
-    (omega arith, g .1, half-next (l .before .before .args .t2) (l .loop .i) (omega arith) (omega arith) (c .before .before .put16 .ensures) (g .2))
-
-same-length : tie.Need-same-length Inv-loop μ-loop
-same-length c = omega arith
+    let put = c .before .before in
+    let i = loop put .loop .i in
+    let g = loop put .loop .inv in
+    (omega arith, g .1, half-next (halves (loop put)) i (omega arith) (omega arith) (put .put16 .ensures) (g .2))
 
 returns : tie.Need-returns Inv-loop μ-loop
 returns c =
-    let g = c .before .loop .inv in
-    let e : c .before .loop .i ≡ 8 = omega arith in
-    written (rw e at (g .2)) ∙ ap halfBytes (take-all 8 (c .before .before .before .args .t2) (omega arith))
+    let l = c .before in
+    let e : l .loop .i ≡ 8 = omega arith in
+    written (rw e at (l .loop .inv .2)) ∙ ap halfBytes (take-all 8 (halves l) (omega arith))
 
 pub put-halves-spec : {M : Type 1} → statement M
 put-halves-spec =
     tie.close
-    (tie.spec
-    Inv-loop
-    μ-loop
-    loop-holds
-    mul-at
-    add-put16
-    sub-put16
-    part-put16-start
-    part-put16-end
-    mul-put16
-    array-read-put16
-    put16-requires
-    add-i
-    loop-less
-    loop-again
-    same-length
-    returns)
+    (tie.spec Inv-loop μ-loop loop-holds (λ c. omega arith) (λ c. omega arith) (λ c. omega arith)
+    (λ c. omega arith) (λ c. omega arith) (λ c. omega arith) (λ c. omega arith) (search needs)
+    (λ c. omega arith) (λ c. omega arith) loop-again (λ c. omega arith) returns)

@@ -1,4 +1,4 @@
--- `records::board::sound_prefetch` meets its contract: the count is told first; the rest is the definition. Assumes nothing.
+-- `board::sound_prefetch` meets its contract: the count is told first; the rest is the definition. Assumes nothing.
 use mathlib.Core.Bool.{and-true, and-false}
 use native.Mathlib.Omega.{arith}
 use borrow.Author.Needs.{needs}
@@ -11,21 +11,16 @@ returns : tie.Need-returns
 unfolding soundPrefetch
 returns c = simp (lt-leb (c .before .before .args .p .count) 8 (omega arith), and-false)
 
-sound-beat-requires : tie.Need-sound-beat-requires
-sound-beat-requires c κs = search needs
-
-sound-row-requires : tie.Need-sound-row-requires
-sound-row-requires c κs = search needs
-
-is-zero-requires : tie.Need-is-zero-requires
-is-zero-requires c κs = search needs
+-- past the test of the count
+abbrev small : tie.After-struct-known5 → tie.Else1
+small c = c .before .before .before .before .before .before .before
 
 returns-2 : tie.Need-returns-2
 unfolding soundPrefetch
 returns-2 c =
-    let few = le-leb _ _ (c .before .before .before .before .before .before .before .if1 .left) in
-    simp (few, and-true, c .before .before .before .sound-beat .ensures, c .before .before .sound-row .ensures, c .before .is-zero .ensures)
+    let row = c .before .before in
+    let few = le-leb _ _ (small c .if1 .left) in
+    simp (few, and-true, row .before .sound-beat .ensures, row .sound-row .ensures, c .before .is-zero .ensures)
 
 pub sound-prefetch-spec : {M : Type 1} → statement M
-sound-prefetch-spec =
-    tie.close (tie.spec returns sound-beat-requires sound-row-requires is-zero-requires returns-2)
+sound-prefetch-spec = tie.close (tie.spec returns (search needs) (search needs) (search needs) returns-2)

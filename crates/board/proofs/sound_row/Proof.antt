@@ -1,5 +1,8 @@
--- `records::board::sound_row` meets its contract: an empty buffer and a wrong length are told first; past them next address is at least 2. Assumes nothing.
-use mathlib.Core.Bool.{and-true, and-false}
+-- `board::sound_row` meets its contract: an empty buffer and a wrong length are told first; past them next address is at
+-- least 2. Assumes nothing.
+use mathlib.Core.Path.{_≡_}
+use mathlib.Core.Bool.{false, and-true, and-false}
+use lib.Dec.{eqb}
 use borrow.Author.Needs.{needs}
 use borrow.Author.Tests.{ne-eqb, eq-eqb}
 use Rattle.model.specs.BoardBytes.{soundRow}
@@ -10,49 +13,24 @@ returns : tie.Need-returns
 unfolding soundRow
 returns c = simp (c .before .if1 .taken)
 
-cast-if2 : tie.Need-cast-if2
-cast-if2 c = search needs
-
-mul-if2 : tie.Need-mul-if2
-mul-if2 c = search needs
-
-add-if2 : tie.Need-add-if2
-add-if2 c = search needs
-
-cast-if2-2 : tie.Need-cast-if2-2
-cast-if2-2 c = search needs
+-- past the first test the buffer is not empty
+some : (c : tie.Else1) → eqb (c .before .before .args .p .count) 0 ≡ false
+some c = ne-eqb _ _ (c .if1 .left)
 
 returns-2 : tie.Need-returns-2
 unfolding soundRow
-returns-2 c = simp (ne-eqb _ _ (c .before .before .before .if1 .left), ne-eqb _ _ (c .if2 .taken), and-false)
-
-in-window-requires : tie.Need-in-window-requires
-in-window-requires c κs = search needs
-
-sub-in-window : tie.Need-sub-in-window
-sub-in-window c = search needs
-
-in-window-requires-2 : tie.Need-in-window-requires-2
-in-window-requires-2 c κs = search needs
+returns-2 c = simp (some (c .before .before .before), ne-eqb _ _ (c .if2 .taken), and-false)
 
 returns-3 : tie.Need-returns-3
 unfolding soundRow
 returns-3 c =
-    let some = ne-eqb _ _ (c .before .before .before .before .before .before .if1 .left) in
-    let long = eq-eqb _ _ (c .before .before .before .if2 .left) in
-    simp (some, long, and-true, c .before .before .in-window .ensures, c .in-window2 .ensures)
+    let first = c .before .before in
+    let past = first .before in
+    let long = eq-eqb _ _ (past .if2 .left) in
+    simp (some (past .before .before .before), long, and-true, first .in-window .ensures, c .in-window2 .ensures)
 
 pub sound-row-spec : {M : Type 1} → statement M
 sound-row-spec =
     tie.close
-    (tie.spec
-    returns
-    cast-if2
-    mul-if2
-    add-if2
-    cast-if2-2
-    returns-2
-    in-window-requires
-    sub-in-window
-    in-window-requires-2
-    returns-3)
+    (tie.spec returns (search needs) (search needs) (search needs) (search needs) returns-2 (search needs)
+    (search needs) (search needs) returns-3)

@@ -1,111 +1,133 @@
--- `examine` meets its contract: each return decides the test that it stands behind, and those before it. Assumes nothing.
+-- `examine` meets its contract: a part that refuses decides the verdict, one that accepts leaves it to the parts behind it.
+-- Assumes nothing.
 use mathlib.Core.Path.{_≡_, sym, ap, _∙_}
-use mathlib.Core.Bool.{not}
-use Prim.Native.Nat.{ℕ, _*_}
+use mathlib.Core.List.{List}
+use Prim.Native.Nat.{ℕ}
 use lib.ListN.{length}
-use borrow.Author.Tests.{eq-eqb, ne-eqb, lt-ltb, le-ltb, not-false}
-use Rattle.model.specs.Sheet.{versionOf, recordCount, recordsFrom, leastFaulty}
-use Rattle.model.specs.Outcome.{faultIndex}
-use Rattle.examine.specs.Lending.{lending}
-use Rattle.examine.specs.Verdicts.{bad-mark, bad-version, bad-shape, bad-lengths, unsound-board, short-answers, faulty-record, no-fault, shaped}
-use Rattle.model.specs.declared.Refusal.the-variants.{FaultyRecord}
-use Rattle.model.specs.declared.Verdict.the-variants.{Refused}
 use native.Mathlib.Omega.{arith}
 use borrow.Author.Needs.{needs}
+use Rattle.model.specs.Outcome.{Lent, Row, firstRow, sheetRows, lengthsRows, boardRows, answersRows, recordsRows, verdict}
+use Rattle.model.specs.Sheet.{recordCount}
+use Rattle.examine.specs.Lent.{lending}
+use Rattle.examine.specs.Verdicts.{passed, stopped, fromLengths, fromBoard, fromAnswers, Shaped, sheet-shaped}
 use Rattle.examine.proofs.examine.Statement.{statement}
 use Rattle.examine.proofs.examine.Tie as tie
 
-is-marked-requires : tie.Need-is-marked-requires
-is-marked-requires c κs = search needs
+abbrev lent : tie.Start → Lent
+lent c =
+    lending (c .args .sheet .now) (c .args .board .now) (c .args .store .now) (c .args .bios .now) (c .args .rom .now)
+    (c .args .answers .now) (c .args .lengths)
+
+-- ---- the sheet is accepted
+
+abbrev entry : tie.After-enum-told → tie.Start
+entry c = c .before .before .before .before .before .before .before .before .before
+
+past-sheet : (c : tie.After-enum-told) → verdict (lent (entry c)) ≡ firstRow (fromLengths (lent (entry c)))
+unfolding verdict
+past-sheet c =
+    let i = lent (entry c) in
+    passed (sheetRows (i .sheet)) (fromLengths i) (c .before .before .examine-sheet .ensures) (c .enum-told .given .1)
+
+shaped : (c : tie.After-enum-told) → Shaped (entry c .args .sheet .now)
+shaped c = sheet-shaped _ (c .before .before .examine-sheet .ensures) (c .enum-told .given .1)
+
+-- ---- the lengths are accepted
+
+abbrev to-sheet : tie.After-enum-told3 → tie.After-enum-told
+to-sheet c = c .before .before .before
+
+abbrev lengths-part : Lent → List Row
+lengths-part i = lengthsRows (i .lengths) (length (i .store)) (length (i .bios)) (length (i .rom))
+
+past-lengths : (c : tie.After-enum-told3) → verdict (lent (entry (to-sheet c))) ≡ firstRow (fromBoard (lent (entry (to-sheet c))))
+past-lengths c =
+    let i = lent (entry (to-sheet c)) in
+    past-sheet (to-sheet c)
+    ∙ passed (lengths-part i) (fromBoard i) (c .before .before .examine-lengths .ensures) (c .enum-told3 .given .1)
+
+-- ---- the board is accepted
+
+abbrev to-lengths : tie.After-enum-told5 → tie.After-enum-told3
+to-lengths c = c .before .before .before
+
+past-board : (c : tie.After-enum-told5)
+    → verdict (lent (entry (to-sheet (to-lengths c)))) ≡ firstRow (fromAnswers (lent (entry (to-sheet (to-lengths c)))))
+past-board c =
+    let i = lent (entry (to-sheet (to-lengths c))) in
+    past-lengths (to-lengths c)
+    ∙ passed (boardRows (i .board)) (fromAnswers i) (c .before .before .examine-board .ensures) (c .enum-told5 .given .1)
+
+-- ---- there is room for the answers
+
+abbrev to-board : tie.After-enum-told7 → tie.After-enum-told5
+to-board c = c .before .before .before .before
 
 returns : tie.Need-returns
+unfolding verdict
 returns c =
-    let g = c .before .before .before .before .before .before .before .before .args in
-    let i = lending (g .sheet .now) (g .board .now) (g .store .now) (g .bios .now) (g .rom .now) (g .answers .now) (g .lengths) in
-    bad-mark i (sym (ap not (c .before .is-marked .ensures)) ∙ c .if1 .taken)
-
-version-of-requires : tie.Need-version-of-requires
-version-of-requires c κs = search needs
+    let i = lent (c .before .before .before .before .before .before .before .before .before) in
+    stopped (sheetRows (i .sheet)) (fromLengths i) (c .before .before .examine-sheet .ensures) (c .enum-told2 .given .1)
 
 returns-2 : tie.Need-returns-2
 returns-2 c =
-    let g = c .before .before .before .before .before .before .before .before .before .before .args in
-    let i = lending (g .sheet .now) (g .board .now) (g .store .now) (g .bios .now) (g .rom .now) (g .answers .now) (g .lengths) in
-    bad-version i (sym (ap not (c .before .before .before .is-marked .ensures)) ∙ c .before .before .if1 .left) (ap not (ne-eqb (versionOf (g .sheet .now)) 1 (λ h. c .if2 .taken (c .before .version-of .ensures ∙ h))))
-
-is-shaped-requires : tie.Need-is-shaped-requires
-is-shaped-requires c κs = search needs
+    let d = c .before .before .before in
+    let i = lent (entry d) in
+    stopped (lengths-part i) (fromBoard i) (c .before .before .examine-lengths .ensures) (c .enum-told4 .given .1) ∙ sym (past-sheet d)
 
 returns-3 : tie.Need-returns-3
 returns-3 c =
-    let g = c .before .before .before .before .before .before .before .before .before .before .before .before .args in
-    let i = lending (g .sheet .now) (g .board .now) (g .store .now) (g .bios .now) (g .rom .now) (g .answers .now) (g .lengths) in
-    bad-shape i (sym (ap not (c .before .before .before .before .before .is-marked .ensures)) ∙ c .before .before .before .before .if1 .left) (ap not (eq-eqb (versionOf (g .sheet .now)) 1 (sym (c .before .before .before .version-of .ensures) ∙ c .before .before .if2 .left))) (sym (ap not (c .before .is-shaped .ensures)) ∙ c .if3 .taken)
+    let d = c .before .before .before in
+    let i = lent (entry (to-sheet d)) in
+    stopped (boardRows (i .board)) (fromAnswers i) (c .before .before .examine-board .ensures) (c .enum-told6 .given .1) ∙ sym (past-lengths d)
 
-lengths-fit-requires : tie.Need-lengths-fit-requires
-lengths-fit-requires c κs = search needs
+examine-answers-requires : tie.Need-examine-answers-requires
+examine-answers-requires c κs = omega (arith, c .record-count .ensures, (shaped (to-sheet (to-lengths (c .before)))) .few)
 
 returns-4 : tie.Need-returns-4
 returns-4 c =
-    let g = c .before .before .before .before .before .before .before .before .before .before .before .before .before .before .args in
-    let i = lending (g .sheet .now) (g .board .now) (g .store .now) (g .bios .now) (g .rom .now) (g .answers .now) (g .lengths) in
-    bad-lengths i (sym (ap not (c .before .before .before .before .before .before .before .is-marked .ensures)) ∙ c .before .before .before .before .before .before .if1 .left) (ap not (eq-eqb (versionOf (g .sheet .now)) 1 (sym (c .before .before .before .before .before .version-of .ensures) ∙ c .before .before .before .before .if2 .left))) (sym (ap not (c .before .before .before .is-shaped .ensures)) ∙ c .before .before .if3 .left) (sym (ap not (c .before .lengths-fit .ensures)) ∙ c .if4 .taken)
+    let d = c .before .before .before .before in
+    let n = c .before .before .before .record-count .ensures in
+    let i = lent (entry (to-sheet (to-lengths d))) in
+    stopped (answersRows (recordCount (i .sheet)) (length (i .answers))) (recordsRows (i .sheet))
+    (c .before .before .examine-answers .ensures ∙ ap (λ (k : ℕ). firstRow (answersRows k (length (i .answers)))) n) (c .enum-told8 .given .1)
+    ∙ sym (past-board d)
 
-is-sound-requires : tie.Need-is-sound-requires
-is-sound-requires c κs = search needs
+examine-records-requires : tie.Need-examine-records-requires
+examine-records-requires c κs = shaped (to-sheet (to-lengths (to-board c)))
 
 returns-5 : tie.Need-returns-5
 returns-5 c =
-    let g = c .before .before .before .before .before .before .before .before .before .before .before .before .before .before .before .before .args in
-    let i = lending (g .sheet .now) (g .board .now) (g .store .now) (g .bios .now) (g .rom .now) (g .answers .now) (g .lengths) in
-    unsound-board i (sym (ap not (c .before .before .before .before .before .before .before .before .before .is-marked .ensures)) ∙ c .before .before .before .before .before .before .before .before .if1 .left) (ap not (eq-eqb (versionOf (g .sheet .now)) 1 (sym (c .before .before .before .before .before .before .before .version-of .ensures) ∙ c .before .before .before .before .before .before .if2 .left))) (sym (ap not (c .before .before .before .before .before .is-shaped .ensures)) ∙ c .before .before .before .before .if3 .left) (sym (ap not (c .before .before .before .lengths-fit .ensures)) ∙ c .before .before .if4 .left) (sym (ap not (c .before .is-sound .ensures)) ∙ c .if5 .taken)
-
-record-count-requires : tie.Need-record-count-requires
-record-count-requires c κs = search needs
-
-mul-if6 : tie.Need-mul-if6
-mul-if6 c = omega (arith, shaped (c .before .before .before .before .before .before .before .before .before .before .before .before .before .before .before .before .before .args .sheet .now) (not-false _ (sym (ap not (c .before .before .before .before .before .before .is-shaped .ensures)) ∙ c .before .before .before .before .before .if3 .left)), c .record-count .ensures)
-
-returns-6 : tie.Need-returns-6
-returns-6 c =
-    let g = c .before .before .before .before .before .before .before .before .before .before .before .before .before .before .before .before .before .before .args in
-    let i = lending (g .sheet .now) (g .board .now) (g .store .now) (g .bios .now) (g .rom .now) (g .answers .now) (g .lengths) in
-    short-answers i (sym (ap not (c .before .before .before .before .before .before .before .before .before .before .before .is-marked .ensures)) ∙ c .before .before .before .before .before .before .before .before .before .before .if1 .left) (ap not (eq-eqb (versionOf (g .sheet .now)) 1 (sym (c .before .before .before .before .before .before .before .before .before .version-of .ensures) ∙ c .before .before .before .before .before .before .before .before .if2 .left))) (sym (ap not (c .before .before .before .before .before .before .before .is-shaped .ensures)) ∙ c .before .before .before .before .before .before .if3 .left) (sym (ap not (c .before .before .before .before .before .lengths-fit .ensures)) ∙ c .before .before .before .before .if4 .left) (sym (ap not (c .before .before .before .is-sound .ensures)) ∙ c .before .before .if5 .left) (lt-ltb (length (g .answers .now)) (12 * recordCount (g .sheet .now)) (omega (arith, c .before .record-count .ensures, c .if6 .taken)))
-
-least-faulty-requires : tie.Need-least-faulty-requires
-least-faulty-requires c κs = omega (arith, shaped (c .before .before .before .before .before .before .before .before .before .before .before .before .before .before .before .before .before .before .args .sheet .now) (not-false _ (sym (ap not (c .before .before .before .before .before .before .before .is-shaped .ensures)) ∙ c .before .before .before .before .before .before .if3 .left)), c .before .record-count .ensures)
-
-returns-7 : tie.Need-returns-7
-returns-7 c =
-    let g = c .before .before .before .before .before .before .before .before .before .before .before .before .before .before .before .before .before .before .before .before .args in
-    let i = lending (g .sheet .now) (g .board .now) (g .store .now) (g .bios .now) (g .rom .now) (g .answers .now) (g .lengths) in
-    let e : c .before .least-faulty .result ≡ faultIndex i = c .before .least-faulty .ensures ∙ ap (λ (n : ℕ). leastFaulty (recordsFrom (g .sheet .now) 0 n)) (c .before .before .before .record-count .ensures) in
-    ap (λ (n : ℕ). Refused (FaultyRecord n)) e ∙ faulty-record i (sym (ap not (c .before .before .before .before .before .before .before .before .before .before .before .before .before .is-marked .ensures)) ∙ c .before .before .before .before .before .before .before .before .before .before .before .before .if1 .left) (ap not (eq-eqb (versionOf (g .sheet .now)) 1 (sym (c .before .before .before .before .before .before .before .before .before .before .before .version-of .ensures) ∙ c .before .before .before .before .before .before .before .before .before .before .if2 .left))) (sym (ap not (c .before .before .before .before .before .before .before .before .before .is-shaped .ensures)) ∙ c .before .before .before .before .before .before .before .before .if3 .left) (sym (ap not (c .before .before .before .before .before .before .before .lengths-fit .ensures)) ∙ c .before .before .before .before .before .before .if4 .left) (sym (ap not (c .before .before .before .before .before .is-sound .ensures)) ∙ c .before .before .before .before .if5 .left) (le-ltb (length (g .answers .now)) (12 * recordCount (g .sheet .now)) (omega (arith, c .before .before .before .record-count .ensures, c .before .before .if6 .left))) (lt-ltb (faultIndex i) (recordCount (g .sheet .now)) (omega (arith, e, c .before .before .before .record-count .ensures, c .if7 .taken)))
-
-returns-8 : tie.Need-returns-8
-returns-8 c =
-    let g = c .before .before .before .before .before .before .before .before .before .before .before .before .before .before .before .before .before .before .before .before .args in
-    let i = lending (g .sheet .now) (g .board .now) (g .store .now) (g .bios .now) (g .rom .now) (g .answers .now) (g .lengths) in
-    let e : c .before .least-faulty .result ≡ faultIndex i = c .before .least-faulty .ensures ∙ ap (λ (n : ℕ). leastFaulty (recordsFrom (g .sheet .now) 0 n)) (c .before .before .before .record-count .ensures) in
-    no-fault i (sym (ap not (c .before .before .before .before .before .before .before .before .before .before .before .before .before .is-marked .ensures)) ∙ c .before .before .before .before .before .before .before .before .before .before .before .before .if1 .left) (ap not (eq-eqb (versionOf (g .sheet .now)) 1 (sym (c .before .before .before .before .before .before .before .before .before .before .before .version-of .ensures) ∙ c .before .before .before .before .before .before .before .before .before .before .if2 .left))) (sym (ap not (c .before .before .before .before .before .before .before .before .before .is-shaped .ensures)) ∙ c .before .before .before .before .before .before .before .before .if3 .left) (sym (ap not (c .before .before .before .before .before .before .before .lengths-fit .ensures)) ∙ c .before .before .before .before .before .before .if4 .left) (sym (ap not (c .before .before .before .before .before .is-sound .ensures)) ∙ c .before .before .before .before .if5 .left) (le-ltb (length (g .answers .now)) (12 * recordCount (g .sheet .now)) (omega (arith, c .before .before .before .record-count .ensures, c .before .before .if6 .left))) (le-ltb (faultIndex i) (recordCount (g .sheet .now)) (omega (arith, e, c .before .before .before .record-count .ensures, c .if7 .left)))
+    let a = c .before in
+    let d = to-board a in
+    let n = a .before .before .before .record-count .ensures in
+    let i = lent (entry (to-sheet (to-lengths d))) in
+    c .examine-records .ensures
+    ∙ sym
+    (past-board d
+    ∙ passed (answersRows (recordCount (i .sheet)) (length (i .answers))) (recordsRows (i .sheet))
+    (a .before .before .examine-answers .ensures ∙ ap (λ (k : ℕ). firstRow (answersRows k (length (i .answers)))) n) (a .enum-told7 .given .1))
 
 pub examine-spec : {M : Type 1} → statement M
 examine-spec =
     tie.close
     (tie.spec
-    is-marked-requires
+    (λ c κs. search needs)
+    (λ c. search needs)
+    (λ c. search needs)
     returns
-    version-of-requires
+    (λ c κs. search needs)
+    (λ c. search needs)
+    (λ c. search needs)
     returns-2
-    is-shaped-requires
+    (λ c κs. search needs)
+    (λ c. search needs)
+    (λ c. search needs)
     returns-3
-    lengths-fit-requires
+    (λ c κs. search needs)
+    examine-answers-requires
+    (λ c. search needs)
+    (λ c. search needs)
     returns-4
-    is-sound-requires
-    returns-5
-    record-count-requires
-    mul-if6
-    returns-6
-    least-faulty-requires
-    returns-7
-    returns-8)
+    examine-records-requires
+    returns-5)

@@ -1,56 +1,29 @@
--- `records::le::put_pair` meets its contract: two words are put, one behind the other. Assumes nothing.
-use mathlib.Core.Path.{refl}
-use native.Mathlib.Omega.{arith}
+-- `le::put_pair` meets its contract: two words are put, one behind the other. Assumes nothing.
+use mathlib.Core.List.{[], _∷_}
 use borrow.Author.Needs.{needs}
-use Rattle.le.proofs.Written.{begin, next, written}
+use Rattle.le.proofs.Written.{filled, lent}
 use Rattle.le.proofs.put_pair.Statement.{statement}
 use Rattle.le.proofs.put_pair.Tie as tie
 
-sub-put32 : tie.Need-sub-put32
-sub-put32 c = search needs
+-- the places behind each word, and the start
+abbrev second : tie.After-slice-known3 → tie.After-put322
+second c = c .before .before
 
-part-put32-start : tie.Need-part-put32-start
-part-put32-start c = search needs
+abbrev first : tie.After-put322 → tie.After-put32
+first c = c .before .before .before .before
 
-part-put32-end : tie.Need-part-put32-end
-part-put32-end c = search needs
-
-put32-requires : tie.Need-put32-requires
-put32-requires c κs = search needs
-
-sub-put32-2 : tie.Need-sub-put32-2
-sub-put32-2 c = search needs
-
-part-put32-start-2 : tie.Need-part-put32-start-2
-part-put32-start-2 c = search needs
-
-part-put32-end-2 : tie.Need-part-put32-end-2
-part-put32-end-2 c = search needs
-
-put32-requires-2 : tie.Need-put32-requires-2
-put32-requires-2 c κs = search needs
-
-same-length : tie.Need-same-length
-same-length c = search needs
+abbrev entry : tie.After-put32 → tie.Start
+entry c = c .before .before .before
 
 returns : tie.Need-returns
 returns c =
-    let s = c .before .before .before .before .before .before .before .before .before in
-    let start = begin (s .args .out .now) (s .pre) in
-    let first = next start 4 (c .before .before .before .before .before .before .put32 .ensures) refl (omega arith) in
-    written (next first 4 (c .before .before .put322 .ensures) refl (omega arith))
+    let two = second c in
+    let one = first two in
+    let s = entry one in
+    filled (s .args .out .now) (lent (one .put32 .ensures) ∷ lent (two .put322 .ensures) ∷ []) (s .pre)
 
 pub put-pair-spec : {M : Type 1} → statement M
 put-pair-spec =
     tie.close
-    (tie.spec
-    sub-put32
-    part-put32-start
-    part-put32-end
-    put32-requires
-    sub-put32-2
-    part-put32-start-2
-    part-put32-end-2
-    put32-requires-2
-    same-length
-    returns)
+    (tie.spec (search needs) (search needs) (search needs) (search needs) (search needs) (search needs)
+    (search needs) (search needs) (λ c. search needs) returns)

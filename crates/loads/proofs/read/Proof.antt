@@ -1,99 +1,43 @@
--- `read` meets its contract: where the four bytes stand in one memory by the word there, else by its callee. Assumes nothing.
-use mathlib.Core.Path.{_∙_, sym}
+-- `read` meets its contract: an aligned load by its word where that stands, every other by its bytes. Assumes nothing.
+use mathlib.Core.Path.{sym, ap, _∙_}
+use Prim.Native.Nat.{ℕ, _%_}
+use Rattle.loads.specs.Bus.{bus}
+use Rattle.loads.proofs.Arms.{meets-lies, some-bytes}
+use Rattle.loads.proofs.Words.{word-loads}
 use native.Mathlib.Omega.{arith}
-use lib.ListN.{length}
-use Rattle.model.specs.Laws.Window.{inWindow-true}
-use Rattle.model.specs.Laws.Spans.{place-kept}
-use Rattle.loads.specs.Bus.{busFrom}
-use Rattle.loads.proofs.Words.{imaged, place-load, rom-load}
 use borrow.Author.Needs.{needs}
 use Rattle.loads.proofs.read.Statement.{statement}
 use Rattle.loads.proofs.read.Tie as tie
 
-decode-requires : tie.Need-decode-requires
-decode-requires c κs = search needs
+rem-if1 : tie.Need-rem-if1
+rem-if1 c = rw (c .size-bytes .ensures) (some-bytes (c .before .before .before .before .args .size))
 
-place-of-requires : tie.Need-place-of-requires
-place-of-requires c κs = search needs
-
-add-if1 : tie.Need-add-if1
-add-if1 c =
-    let a = c .before .before .before .before .before .before .args in
-    omega (arith, c .before .place-of .ensures .index, place-kept (a .lengths) (a .addr) (c .before .before .decode .result))
-
-word-in-requires : tie.Need-word-in-requires
-word-in-requires c κs =
-    let a = c .before .before .before .before .before .before .before .before .args in
-    let k = place-kept (a .lengths) (a .addr) (c .before .before .before .before .decode .result) in
-    let h = c .before .before .before .place-of .ensures in
-    let s = c .before .before .before .before .before .before .before .before .pre in
-    (c .if1 .taken, omega arith)
-
-low-bytes-requires : tie.Need-low-bytes-requires
-low-bytes-requires c κs = search needs
+word-from-requires : tie.Need-word-from-requires
+word-from-requires c κs = let start = c .before .before .before .before .before in meets-lies (start .args .lengths) (start .args .addr) (start .pre)
 
 returns : tie.Need-returns
 returns c =
-    let g = c .before .before .before .before .before .before .before .before .before .before in
-    let b = busFrom (g .args .pc) (g .args .latch) (g .args .bios .now) (g .args .rom .now) (g .args .store .now) (g .args .lengths) in
-    let known = c .before .before .before .before .before .before .before .shared-slice-known3 .given in
-    let d = c .before .before .before .before .before .before .decode .ensures in
-    let h = c .before .before .before .before .before .place-of .ensures in
-    place-load b (g .args .addr) (g .args .size) (omega arith) (λ j. omega (arith, known j)) d h (c .before .before .if1 .taken) (c .before .word-in .ensures) (c .low-bytes .ensures)
-
-rom-offset-requires : tie.Need-rom-offset-requires
-rom-offset-requires c κs = search needs
-
-in-window-requires : tie.Need-in-window-requires
-in-window-requires c κs = search needs
-
-add-if2 : tie.Need-add-if2
-add-if2 c = search needs
-
-least-requires : tie.Need-least-requires
-least-requires c κs = search needs
-
-read32-requires : tie.Need-read32-requires
-read32-requires c κs =
-    let d = c .before .before in
-    let rom = d .before .before .before .before .before .before .before .before .before .before .args .rom .now in
-    (imaged (d .in-window .result) (d .before .rom-offset .result) (length rom) (c .if2 .taken) (c .before .least .ensures)) .lent
-
-low-bytes-requires-2 : tie.Need-low-bytes-requires-2
-low-bytes-requires-2 c κs = search needs
-
-returns-2 : tie.Need-returns-2
-returns-2 c =
-    let g = c .before .before .before .before .before .before .before .before .before .before .before .before .before .before in
-    let b = busFrom (g .args .pc) (g .args .latch) (g .args .bios .now) (g .args .rom .now) (g .args .store .now) (g .args .lengths) in
-    let known = c .before .before .before .before .before .before .before .before .before .before .before .before .shared-slice-known2 .given in
-    let d = c .before .before .before .before in
-    let i = imaged (d .in-window .result) (d .before .rom-offset .result) (length (g .args .rom .now)) (c .before .before .if2 .taken) (c .before .before .before .least .ensures) in
-    let w = inWindow-true (g .args .addr) (sym (d .in-window .ensures) ∙ i .window) in
-    rom-load b (g .args .addr) (g .args .size) (omega arith) (λ j. omega (arith, known j)) w (d .before .rom-offset .ensures) (i .shown) (c .before .read32 .ensures) (c .low-bytes2 .ensures)
-
-read-by-bytes-requires : tie.Need-read-by-bytes-requires
-read-by-bytes-requires c κs = search needs
-
-returns-3 : tie.Need-returns-3
-returns-3 c = search needs
+    let found = c .before .before .before .before in
+    let tested = found .before .before in
+    let start = tested .before .before .before .before in
+    let a = start .args in
+    c .low-bytes .ensures
+    ∙ word-loads (a .lengths) (bus (a .pc) (a .latch) (a .bios .now) (a .rom .now) (a .store .now)) (a .size) (a .addr) (omega arith)
+    (ap (λ (n : ℕ). a .addr % n) (sym (tested .size-bytes .ensures)) ∙ found .before .if1 .taken)
+    (λ j. omega (arith, tested .before .shared-slice-known3 .given j))
+    (λ j. omega (arith, tested .before .before .shared-slice-known2 .given j))
+    (a .target) (start .pre .memory) (sym (found .word-from .ensures) ∙ c .before .before .loaded .given .1)
 
 pub read-spec : {M : Type 1} → statement M
 read-spec =
     tie.close
     (tie.spec
-    decode-requires
-    place-of-requires
-    add-if1
-    word-in-requires
-    low-bytes-requires
+    (λ c κs. search needs)
+    rem-if1
+    word-from-requires
+    (λ c. search needs)
+    (λ c κs. search needs)
     returns
-    rom-offset-requires
-    in-window-requires
-    add-if2
-    least-requires
-    read32-requires
-    low-bytes-requires-2
-    returns-2
-    read-by-bytes-requires
-    returns-3)
+    (λ c. search needs)
+    (λ c κs. search needs)
+    (λ c. search needs))

@@ -1,68 +1,57 @@
--- `read16` meets its contract: the branch decides the definition's test. Assumes nothing.
-use Rattle.model.specs.Load.{load16}
-use Rattle.model.specs.Laws.HalfStores.{sram-test}
+-- `read16` meets its contract: one byte repeated, or two, each decoded by itself. Assumes nothing.
+use mathlib.Core.Path.{ap, _∙_}
+use Prim.Native.Nat.{ℕ}
+use Rattle.model.specs.Load.{Bus, load8}
+use Rattle.loads.specs.Bus.{bus}
+use Rattle.loads.proofs.Arms.{meets-lies, byte-is, half-repeats, half-pair}
 use borrow.Author.Needs.{needs}
 use Rattle.loads.proofs.read16.Statement.{statement}
 use Rattle.loads.proofs.read16.Tie as tie
 
+-- where the call begins, and what it sees
+abbrev start : tie.After-is-sram → tie.Start
+start c = c .before .before .before .before .before
+
+abbrev seen : tie.After-is-sram → Bus
+seen c = bus (start c .args .pc) (start c .args .latch) (start c .args .bios .now) (start c .args .rom .now) (start c .args .store .now)
+
 read8-requires : tie.Need-read8-requires
-read8-requires c κs = search needs
-
-cast-lo : tie.Need-cast-lo
-cast-lo c = search needs
-
-decode-requires : tie.Need-decode-requires
-decode-requires c κs = search needs
-
-is-sram-requires : tie.Need-is-sram-requires
-is-sram-requires c κs = search needs
-
-mul-result : tie.Need-mul-result
-mul-result c = search needs
+read8-requires c κs = let start = c .before .before .before in meets-lies (start .args .lengths) (start .args .addr) (start .pre)
 
 returns : tie.Need-returns
-unfolding load16
 returns c =
-    let a = c .before .before .before .before .before .before .before .args .addr in
-    let t = sram-test a (c .before .before .decode .ensures) (c .before .is-sram .ensures) (c .if1 .taken) in
-    simp (t, c .before .before .before .read8 .ensures)
-
-wrapping-add-u32-requires : tie.Need-wrapping-add-u32-requires
-wrapping-add-u32-requires c κs = search needs
+    let at = c .before in
+    half-repeats (start at .args .lengths) (seen at) (start at .args .addr) (start at .pre .memory) (at .is-sram .ensures) (c .if1 .taken)
+    (at .before .read8 .ensures)
 
 read8-requires-2 : tie.Need-read8-requires-2
-read8-requires-2 c κs = search needs
-
-cast-hi : tie.Need-cast-hi
-cast-hi c = search needs
-
-mul-result-2 : tie.Need-mul-result-2
-mul-result-2 c = search needs
-
-add-result : tie.Need-add-result
-add-result c = search needs
+read8-requires-2 c κs =
+    let at = c .before .before .before in
+    meets-lies (start at .args .lengths) (c .before .wrapping-add-u32 .result) {s = start at .args .store .now}
+    (record { memory = c .target-of .ensures; whole = start at .pre .whole })
 
 returns-2 : tie.Need-returns-2
-unfolding load16
 returns-2 c =
-    let d = c .before .before in
-    let a = c .before .before .before .before .before .before .before .before .before .args .addr in
-    let t = sram-test a (d .before .before .decode .ensures) (d .before .is-sram .ensures) (d .if1 .left) in
-    simp (t, d .before .before .before .read8 .ensures, c .read82 .ensures, c .before .wrapping-add-u32 .ensures)
+    let at = c .before .before .before .before in
+    let next = c .before .before .wrapping-add-u32 in
+    half-pair (start at .args .lengths) (seen at) (start at .args .addr) (start at .pre .memory) (at .is-sram .ensures)
+    (c .before .before .before .if1 .left) (at .before .read8 .ensures)
+    (byte-is (start at .args .lengths) (seen at) (next .result) (c .before .target-of .ensures) (c .read82 .ensures)
+    ∙ ap (load8 (start at .args .lengths) (seen at)) (next .ensures))
 
 pub read16-spec : {M : Type 1} → statement M
 read16-spec =
     tie.close
     (tie.spec
     read8-requires
-    cast-lo
-    decode-requires
-    is-sram-requires
-    mul-result
+    (λ c. search needs)
+    (λ c κs. search needs)
+    (λ c. search needs)
     returns
-    wrapping-add-u32-requires
+    (λ c κs. search needs)
+    (λ c κs. search needs)
     read8-requires-2
-    cast-hi
-    mul-result-2
-    add-result
+    (λ c. search needs)
+    (λ c. search needs)
+    (λ c. search needs)
     returns-2)

@@ -1,77 +1,57 @@
--- `read32` meets its contract: the branch decides the definition's test. Assumes nothing.
-use Rattle.model.specs.Load.{load32}
-use Rattle.model.specs.Laws.HalfStores.{sram-test}
+-- `read32` meets its contract: one byte repeated, or two halfwords, each decoded by itself. Assumes nothing.
+use mathlib.Core.Path.{ap, _∙_}
+use Prim.Native.Nat.{ℕ}
+use Rattle.model.specs.Load.{Bus, load16}
+use Rattle.loads.specs.Bus.{bus}
+use Rattle.loads.proofs.Arms.{meets-lies, word-repeats, word-pair}
 use borrow.Author.Needs.{needs}
 use Rattle.loads.proofs.read32.Statement.{statement}
 use Rattle.loads.proofs.read32.Tie as tie
 
-decode-requires : tie.Need-decode-requires
-decode-requires c κs = search needs
+-- where the call begins, and what it sees
+abbrev start : tie.After-is-sram → tie.Start
+start c = c .before .before .before .before
 
-is-sram-requires : tie.Need-is-sram-requires
-is-sram-requires c κs = search needs
+abbrev seen : tie.After-is-sram → Bus
+seen c = bus (start c .args .pc) (start c .args .latch) (start c .args .bios .now) (start c .args .rom .now) (start c .args .store .now)
 
 read8-requires : tie.Need-read8-requires
-read8-requires c κs = search needs
-
-cast-b : tie.Need-cast-b
-cast-b c = search needs
-
-mul-result : tie.Need-mul-result
-mul-result c = search needs
+read8-requires c κs = let at = c .before in meets-lies (start at .args .lengths) (start at .args .addr) (start at .pre)
 
 returns : tie.Need-returns
-unfolding load32
 returns c =
-    let d = c .before in
-    let a = c .before .before .before .before .before .before .before .args .addr in
-    let t = sram-test a (d .before .before .decode .ensures) (d .before .is-sram .ensures) (d .if1 .taken) in
-    simp (t, c .read8 .ensures)
-
-read16-requires : tie.Need-read16-requires
-read16-requires c κs = search needs
-
-cast-lo : tie.Need-cast-lo
-cast-lo c = search needs
-
-wrapping-add-u32-requires : tie.Need-wrapping-add-u32-requires
-wrapping-add-u32-requires c κs = search needs
+    let at = c .before .before in
+    word-repeats (start at .args .lengths) (seen at) (start at .args .addr) (start at .pre .memory) (at .is-sram .ensures) (c .before .if1 .taken)
+    (c .read8 .ensures)
 
 read16-requires-2 : tie.Need-read16-requires-2
-read16-requires-2 c κs = search needs
-
-cast-hi : tie.Need-cast-hi
-cast-hi c = search needs
-
-mul-result-2 : tie.Need-mul-result-2
-mul-result-2 c = search needs
-
-add-result : tie.Need-add-result
-add-result c = search needs
+read16-requires-2 c κs =
+    let at = c .before .before .before .before in
+    record { memory = c .target-of .ensures; whole = start at .pre .whole }
 
 returns-2 : tie.Need-returns-2
-unfolding load32
 returns-2 c =
-    let d = c .before .before .before in
-    let a = c .before .before .before .before .before .before .before .before .before .args .addr in
-    let t = sram-test a (d .before .before .decode .ensures) (d .before .is-sram .ensures) (d .if1 .left) in
-    simp (t, c .before .before .read16 .ensures, c .read162 .ensures, c .before .wrapping-add-u32 .ensures)
+    let at = c .before .before .before .before .before in
+    let next = c .before .before .wrapping-add-u32 in
+    word-pair (start at .args .lengths) (seen at) (start at .args .addr) (start at .pre .memory) (at .is-sram .ensures)
+    (c .before .before .before .before .if1 .left) (c .before .before .before .read16 .ensures)
+    (c .read162 .ensures ∙ ap (load16 (start at .args .lengths) (seen at)) (next .ensures))
 
 pub read32-spec : {M : Type 1} → statement M
 read32-spec =
     tie.close
     (tie.spec
-    decode-requires
-    is-sram-requires
+    (λ c κs. search needs)
     read8-requires
-    cast-b
-    mul-result
+    (λ c. search needs)
+    (λ c. search needs)
     returns
-    read16-requires
-    cast-lo
-    wrapping-add-u32-requires
+    (λ c κs. search needs)
+    (λ c. search needs)
+    (λ c κs. search needs)
+    (λ c κs. search needs)
     read16-requires-2
-    cast-hi
-    mul-result-2
-    add-result
+    (λ c. search needs)
+    (λ c. search needs)
+    (λ c. search needs)
     returns-2)

@@ -1,19 +1,19 @@
--- The least and the most that an access, a fetch and a step cost.
+-- The least and the most that a beat, an access, a fetch and a step cost.
 use mathlib.Core.Bool.{Bool, true, false, _&&_}
 use mathlib.Core.List.{List, [], _∷_}
 use Prim.Native.Nat.{ℕ, zero, suc, _+_, _*_, _/_, _%_, _≤_}
 use native.Mathlib.Omega.{arith}
-use lib.ListN.{getD}
+use lib.ListN.{length, getD}
 use lib.Dec.{T, leb, leb→le, eqb, lit≤}
 use Rattle.model.specs.Base.{bit, further}
 use Rattle.model.specs.Region.{decode, page}
 use Rattle.model.specs.Waitcnt.{Waits, nWaits, sWaits, romWaits}
-use Rattle.model.specs.Wait.{nonseqIf, kindAt, romHalfCycles, ewramCycles, videoRamCycles, window}
+use Rattle.model.specs.Wait.{nonseqIf, romHalfCycles, ewramCycles, window}
 use Rattle.model.specs.Prefetch.{hit, fetched}
-use Rattle.model.specs.Timing.{internal, codeSize, romHalf, romFetch, plainFetch, fetchIn, fetchCycles, idleIn, cartIdle, priceInsn}
-use Rattle.model.specs.Price.{romDataCycles, priceIn, dataCycles}
-use Rattle.model.specs.Step.{waitsOf, cycles, romHits, hitsIn, codeHits, hits}
-use Rattle.model.specs.Laws.Choice.{either, bit≤1}
+use Rattle.model.specs.Price.{Beat, BufferBeat, RomBeat, EwramBeat, SramBeat, VideoBeat, FastBeat, beatCycles, price, wide, dataBeatsIn, dataBeats, dataCycles}
+use Rattle.model.specs.Timing.{internal, codeSize, halfBeat, plainBeat, fetchBeatsIn, fetchBeats, idleIn, cartIdle, priceInsn}
+use Rattle.model.specs.Step.{waitsOf, romHits, hitsIn, codeHits, Timed, timed}
+use Rattle.model.specs.Laws.Choice.{All, either, bit≤1}
 use Rattle.model.specs.declared.Clock.{Clock}
 use Rattle.model.specs.declared.PrefetchBuffer.{PrefetchBuffer}
 use Rattle.model.specs.declared.Region.{Region}
@@ -80,137 +80,148 @@ pub record SmallWaits (t : Waits) : Type 0 where
 pub romWaits-small : (w : ℕ) → SmallWaits (romWaits w)
 romWaits-small w = record { small = λ win k. (half-between w win k) .most }
 
--- ---- a data access costs 1 to 18
+-- ---- a beat costs 1 to 9, and an access or a fetch has one or two beats
 
-rom-between : (w : ℕ) (win : RomWindow) (z : AccessSize) → Between 1 18 (romDataCycles (romWaits w) win z)
-rom-between w win Byte = omega (arith, half-between w win Nonseq)
-rom-between w win Half = omega (arith, half-between w win Nonseq)
-rom-between w win Word = omega (arith, half-between w win Nonseq, half-between w win Seq)
+-- a beat whose waits are those of WAITCNT
+abbrev pub Regular : Beat → Type 0
+Regular BufferBeat = Unit {0}
+Regular (RomBeat win k) = Unit {0}
+Regular (EwramBeat z) = Unit {0}
+Regular (SramBeat waits) = waits ≤ 8
+Regular VideoBeat = Unit {0}
+Regular FastBeat = Unit {0}
 
 ewram-between : (z : AccessSize) → Between 1 6 (ewramCycles z)
 ewram-between Byte = omega arith
 ewram-between Half = omega arith
 ewram-between Word = omega arith
 
-video-between : (z : AccessSize) → Between 1 2 (videoRamCycles z)
-video-between Byte = omega arith
-video-between Half = omega arith
-video-between Word = omega arith
+beat-between : (t : Waits) → SmallWaits t → (b : Beat) → Regular b → Between 1 9 (beatCycles t b)
+unfolding romHalfCycles
+beat-between t small BufferBeat r = omega arith
+beat-between t small (RomBeat win k) r = record { least = omega arith; most = small .small win k }
+beat-between t small (EwramBeat z) r = omega (arith, ewram-between z)
+beat-between t small (SramBeat waits) r = omega arith
+beat-between t small VideoBeat r = omega arith
+beat-between t small FastBeat r = omega arith
 
-priceIn-between : (w : ℕ) (z : AccessSize) (r : Region) → Between 1 18 (priceIn (romWaits w) (nWaits w) z r)
-priceIn-between w z Bios = omega arith
-priceIn-between w z UnusedLow = omega arith
-priceIn-between w z Ewram = omega (arith, ewram-between z)
-priceIn-between w z Iwram = omega arith
-priceIn-between w z Io = omega arith
-priceIn-between w z Palette = omega (arith, video-between z)
-priceIn-between w z Vram = omega (arith, video-between z)
-priceIn-between w z Oam = omega arith
-priceIn-between w z GamePakRomWs0 = rom-between w Ws0 z
-priceIn-between w z GamePakRomWs1 = rom-between w Ws1 z
-priceIn-between w z GamePakRomWs2 = rom-between w Ws2 z
-priceIn-between w z GamePakSram = omega (arith, nWaits≤8 w)
-priceIn-between w z UnusedHigh = omega arith
+-- one beat or two
+pub record Beats (bs : List Beat) : Type 0 where
+  pub some : 1 ≤ length bs
+  pub few : length bs ≤ 2
+  pub regular : All Regular bs
+
+one-beat : (b : Beat) → Regular b → Beats (b ∷ [])
+one-beat b r = record { some = omega arith; few = omega arith; regular = (r, tt) }
+
+two-beats : (b c : Beat) → Regular b → Regular c → Beats (b ∷ c ∷ [])
+two-beats b c r s = record { some = omega arith; few = omega arith; regular = (r, (s, tt)) }
+
+sum-between : (t : Waits) → SmallWaits t → (bs : List Beat) → All Regular bs → Between (length bs) (9 * length bs) (price t bs)
+sum-between t small [] r = omega arith
+sum-between t small (b ∷ bs) r = omega (arith, beat-between t small b (r .0), sum-between t small bs (r .1))
+
+price-between : (t : Waits) → SmallWaits t → (bs : List Beat) → Beats bs → Between 1 18 (price t bs)
+price-between t small bs b = omega (arith, sum-between t small bs (b .regular), b .some, b .few)
+
+-- ---- the beats of a data access
+
+wide-beats : (z : AccessSize) (b c : Beat) → Regular b → Regular c → Beats (wide z b c)
+wide-beats Byte b c r s = one-beat b r
+wide-beats Half b c r s = one-beat b r
+wide-beats Word b c r s = two-beats b c r s
+
+beats-in : (sram : ℕ) → sram ≤ 8 → (z : AccessSize) (r : Region) → Beats (dataBeatsIn sram z r)
+beats-in sram h z Bios = one-beat FastBeat tt
+beats-in sram h z UnusedLow = one-beat FastBeat tt
+beats-in sram h z Ewram = wide-beats z (EwramBeat Half) (EwramBeat Half) tt tt
+beats-in sram h z Iwram = one-beat FastBeat tt
+beats-in sram h z Io = one-beat FastBeat tt
+beats-in sram h z Palette = wide-beats z VideoBeat VideoBeat tt tt
+beats-in sram h z Vram = wide-beats z VideoBeat VideoBeat tt tt
+beats-in sram h z Oam = one-beat FastBeat tt
+beats-in sram h z GamePakRomWs0 = wide-beats z (RomBeat Ws0 Nonseq) (RomBeat Ws0 Seq) tt tt
+beats-in sram h z GamePakRomWs1 = wide-beats z (RomBeat Ws1 Nonseq) (RomBeat Ws1 Seq) tt tt
+beats-in sram h z GamePakRomWs2 = wide-beats z (RomBeat Ws2 Nonseq) (RomBeat Ws2 Seq) tt tt
+beats-in sram h z GamePakSram = one-beat (SramBeat sram) h
+beats-in sram h z UnusedHigh = one-beat FastBeat tt
+
+pub data-beats : (w : ℕ) (z : AccessSize) (a : ℕ) → Beats (dataBeats w z a)
+unfolding dataBeats
+data-beats w z a = beats-in (nWaits w) (nWaits≤8 w) z (decode a)
 
 pub data-between : (w : ℕ) (z : AccessSize) (a : ℕ) → Between 1 18 (dataCycles w z a)
-unfolding dataCycles
-data-between w z a = priceIn-between w z (decode a)
+data-between w z a = price-between (romWaits w) (romWaits-small w) (dataBeats w z a) (data-beats w z a)
 
--- ---- an instruction costs 1 to 19, and leaves the cartridge bus idle for at most 7
+-- ---- the beats of a fetch
 
-romHalf-between : (t : Waits) → SmallWaits t → (p : PrefetchBuffer) (a : ℕ) (win : RomWindow) (k : AccessKind) → Between 1 9 (romHalf t p a win k)
-unfolding romHalf romHalfCycles
-romHalf-between t small p a win k =
-    either (λ (n : ℕ). Between 1 9 n) (hit p a) (omega arith) (record { least = omega arith; most = small .small win (kindAt a k) })
+half-regular : (p : PrefetchBuffer) (a : ℕ) (win : RomWindow) (k : AccessKind) → Regular (halfBeat p a win k)
+unfolding halfBeat
+half-regular p a win k = either Regular (hit p a) tt tt
 
-pub romFetch-between : (t : Waits) → SmallWaits t → (p : PrefetchBuffer) (a : ℕ) (win : RomWindow) (k : AccessKind) (isa : IsaState)
-    → Between 1 18 (romFetch t p a win k isa)
-romFetch-between t small p a win k Thumb = omega (arith, romHalf-between t small p a win k)
-romFetch-between t small p a win k Arm = omega (arith, romHalf-between t small p a win k, romHalf-between t small p (further 2 a) win Seq)
+plain-regular : (a : ℕ) (isa : IsaState) → Regular (plainBeat a isa)
+unfolding plainBeat
+plain-regular a isa = either Regular (eqb (page a) 0x02) tt tt
 
-plainFetch-between : (a : ℕ) (isa : IsaState) → Between 1 6 (plainFetch a isa)
-unfolding plainFetch
-plainFetch-between a isa = either (λ (n : ℕ). Between 1 6 n) (eqb (page a) 0x02) (ewram-between (codeSize isa)) (omega arith)
+pub fetch-beats-in : (p : PrefetchBuffer) (a : ℕ) (k : AccessKind) (isa : IsaState) (v : Windowed) → Beats (fetchBeatsIn p a k isa v)
+fetch-beats-in p a k Thumb (In win) = one-beat (halfBeat p a win k) (half-regular p a win k)
+fetch-beats-in p a k Arm (In win) =
+    two-beats (halfBeat p a win k) (halfBeat p (further 2 a) win Seq) (half-regular p a win k) (half-regular p (further 2 a) win Seq)
+fetch-beats-in p a k isa Outside = one-beat (plainBeat a isa) (plain-regular a isa)
 
-pub fetchIn-between : (t : Waits) → SmallWaits t → (p : PrefetchBuffer) (a : ℕ) (k : AccessKind) (isa : IsaState) (v : Windowed)
-    → Between 1 18 (fetchIn t p a k isa v)
-fetchIn-between t small p a k isa (In win) = romFetch-between t small p a win k isa
-fetchIn-between t small p a k isa Outside = omega (arith, plainFetch-between a isa)
+pub fetch-between : (t : Waits) → SmallWaits t → (p : PrefetchBuffer) (a : ℕ) (k : AccessKind) (isa : IsaState) (v : Windowed)
+    → Between 1 18 (price t (fetchBeatsIn p a k isa v))
+fetch-between t small p a k isa v = price-between t small (fetchBeatsIn p a k isa v) (fetch-beats-in p a k isa v)
 
-fetch-between : (t : Waits) → SmallWaits t → (p : PrefetchBuffer) (force : Bool) (isa : IsaState) (a : ℕ) → Between 1 18 (fetchCycles t p force isa a)
-unfolding fetchCycles
-fetch-between t small p force isa a = fetchIn-between t small p a (nonseqIf force) isa (window a)
+-- an instruction leaves the cartridge bus idle for at most 7 cycles
 
-pub idleIn≤6 : (a : ℕ) (isa : IsaState) (v : Windowed) → idleIn a isa v ≤ 6
-idleIn≤6 a isa (In win) = omega arith
-idleIn≤6 a isa Outside = omega (arith, plainFetch-between a isa)
+pub plain≤6 : (t : Waits) (a : ℕ) (isa : IsaState) → beatCycles t (plainBeat a isa) ≤ 6
+unfolding plainBeat
+plain≤6 t a isa =
+    either (λ (b : Beat). beatCycles t b ≤ 6) (eqb (page a) 0x02) (omega (arith, ewram-between (codeSize isa))) (omega arith)
 
-pub cartIdle≤7 : (isa : IsaState) (a raw : ℕ) → cartIdle isa a raw ≤ 7
+pub idleIn≤6 : (t : Waits) (a : ℕ) (isa : IsaState) (v : Windowed) → idleIn t a isa v ≤ 6
+idleIn≤6 t a isa (In win) = omega arith
+idleIn≤6 t a isa Outside = plain≤6 t a isa
+
+pub cartIdle≤7 : (t : Waits) (isa : IsaState) (a raw : ℕ) → cartIdle t isa a raw ≤ 7
 unfolding cartIdle
-cartIdle≤7 isa a raw = omega (arith, idleIn≤6 a isa (window a), bit≤1 (internal isa raw))
+cartIdle≤7 t isa a raw = omega (arith, idleIn≤6 t a isa (window a), bit≤1 (internal isa raw))
 
 -- ---- what a step adds to I, A and D: instructions, data accesses and idle cycles
 
-abbrev pub instructions : Step → ℕ
-instructions (Read z a) = 0
-instructions (Write z a v) = 0
-instructions (Waitcnt v) = 0
-instructions (Idle n) = 0
-instructions (Fetch a) = 0
-instructions (Restart a) = 0
-instructions (Instruction isa a op changed) = 1
-instructions (Pc a) = 0
-instructions (Latch v) = 0
+pub record Weight : Type 0 where
+  pub instructions : ℕ
+  pub accesses : ℕ
+  pub idles : ℕ
 
-abbrev pub accesses : Step → ℕ
-accesses (Read z a) = 1
-accesses (Write z a v) = 1
-accesses (Waitcnt v) = 0
-accesses (Idle n) = 0
-accesses (Fetch a) = 0
-accesses (Restart a) = 0
-accesses (Instruction isa a op changed) = 0
-accesses (Pc a) = 0
-accesses (Latch v) = 0
+abbrev pub weighing : ℕ → ℕ → ℕ → Weight
+weighing i a d = record { instructions = i; accesses = a; idles = d }
 
-abbrev pub idles : Step → ℕ
-idles (Read z a) = 0
-idles (Write z a v) = 0
-idles (Waitcnt v) = 0
-idles (Idle n) = n
-idles (Fetch a) = 0
-idles (Restart a) = 0
-idles (Instruction isa a op changed) = 0
-idles (Pc a) = 0
-idles (Latch v) = 0
+abbrev pub weight : Step → Weight
+weight (Read z a) = weighing 0 1 0
+weight (Write z a v) = weighing 0 1 0
+weight (Waitcnt v) = weighing 0 0 0
+weight (Idle n) = weighing 0 0 n
+weight (Fetch a) = weighing 0 0 0
+weight (Restart a) = weighing 0 0 0
+weight (Instruction isa a op jump) = weighing 1 0 0
+weight (Pc a) = weighing 0 0 0
+weight (Latch v) = weighing 0 0 0
 
-pub step-between : (c : Clock) (x : Step)
-    → Between (instructions x + accesses x + idles x) (19 * instructions x + 18 * accesses x + idles x) (cycles c x)
-unfolding priceInsn
-step-between c (Read z a) = omega (arith, data-between (c .waitcnt) z a)
-step-between c (Write z a v) = omega (arith, data-between (c .waitcnt) z a)
-step-between c (Waitcnt v) = omega arith
-step-between c (Idle n) = omega arith
-step-between c (Fetch a) = omega arith
-step-between c (Restart a) = omega arith
-step-between c (Instruction isa a op changed) =
-    omega (arith, fetch-between (waitsOf c) (romWaits-small (c .waitcnt)) (c .prefetch) (c .«force_next_fetch_n») isa a, bit≤1 (internal isa op))
-step-between c (Pc a) = omega arith
-step-between c (Latch v) = omega arith
+-- the least and the most that a weight costs
+abbrev pub least : Weight → ℕ
+least w = w .instructions + w .accesses + w .idles
 
--- a step's cycles fit 32 bits where its idle cycles do
-pub cycles-fit : (c : Clock) (x : Step) → idles x ≤ 0xFFFF_FFFF → cycles c x ≤ 0xFFFF_FFFF
-cycles-fit c (Read z a) h = omega (arith, step-between c (Read z a))
-cycles-fit c (Write z a v) h = omega (arith, step-between c (Write z a v))
-cycles-fit c (Waitcnt v) h = omega arith
-cycles-fit c (Idle n) h = h
-cycles-fit c (Fetch a) h = omega arith
-cycles-fit c (Restart a) h = omega arith
-cycles-fit c (Instruction isa a op changed) h = omega (arith, step-between c (Instruction isa a op changed))
-cycles-fit c (Pc a) h = omega arith
-cycles-fit c (Latch v) h = omega arith
+abbrev pub most : Weight → ℕ
+most w = 19 * w .instructions + 18 * w .accesses + w .idles
 
--- ---- at most two hits a step
+-- ---- every step: its cycles, its hits and its idle cycles
+
+pub record Bounded (w : Weight) (t : Timed) : Type 0 where
+  pub least : least w ≤ t .cycles
+  pub most : t .cycles ≤ most w
+  pub hits : t .hits ≤ 2
 
 romHits≤2 : (p : PrefetchBuffer) (a : ℕ) (isa : IsaState) → romHits p a isa ≤ 2
 romHits≤2 p a Thumb = omega (arith, bit≤1 (hit p a))
@@ -220,14 +231,16 @@ hitsIn≤2 : (p : PrefetchBuffer) (a : ℕ) (isa : IsaState) (v : Windowed) → 
 hitsIn≤2 p a isa (In win) = romHits≤2 p a isa
 hitsIn≤2 p a isa Outside = omega arith
 
-pub hits≤2 : (c : Clock) (x : Step) → hits c x ≤ 2
-unfolding codeHits
-hits≤2 c (Read z a) = omega arith
-hits≤2 c (Write z a v) = omega arith
-hits≤2 c (Waitcnt v) = omega arith
-hits≤2 c (Idle n) = omega arith
-hits≤2 c (Fetch a) = omega (arith, bit≤1 (hit (c .prefetch) a))
-hits≤2 c (Restart a) = omega arith
-hits≤2 c (Instruction isa a op changed) = hitsIn≤2 (c .prefetch) a isa (window a)
-hits≤2 c (Pc a) = omega arith
-hits≤2 c (Latch v) = omega arith
+pub step-bounded : (c : Clock) (x : Step) → Bounded (weight x) (timed c x)
+unfolding priceInsn fetchBeats codeHits
+step-bounded c (Read z a) = omega (arith, data-between (c .waitcnt) z a)
+step-bounded c (Write z a v) = omega (arith, data-between (c .waitcnt) z a)
+step-bounded c (Waitcnt v) = omega arith
+step-bounded c (Idle n) = omega arith
+step-bounded c (Fetch a) = omega (arith, bit≤1 (hit (c .prefetch) a))
+step-bounded c (Restart a) = omega arith
+step-bounded c (Instruction isa a op jump) =
+    let f = fetch-between (waitsOf c) (romWaits-small (c .waitcnt)) (c .prefetch) a (nonseqIf (c .«force_next_fetch_n»)) isa (window a) in
+    omega (arith, bit≤1 (internal isa op), hitsIn≤2 (c .prefetch) a isa (window a))
+step-bounded c (Pc a) = omega arith
+step-bounded c (Latch v) = omega arith

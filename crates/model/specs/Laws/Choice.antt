@@ -1,7 +1,9 @@
--- Reasoning by the two branches of a test, and by the parts of a conjunction of tests. Nothing here is about the machine.
+-- Reasoning by the two branches of a test, by the parts of a conjunction of tests, and about every element of a list. Nothing here is
+-- about the machine.
 use mathlib.Core.Path.{_≡_, refl, sym, _∙_}
 use mathlib.Core.Bool.{Bool, true, false, _&&_, _||_, true≢false, false≢true}
 use mathlib.Core.Logic.{_≢_}
+use mathlib.Core.List.{List, [], _∷_}
 use Prim.Native.Nat.{ℕ, _≤_}
 use native.Mathlib.Omega.{arith}
 use lib.Dec.{eqb}
@@ -87,3 +89,10 @@ or-false-right false b e = e
 pub or-right : (a b : Bool) → a || b ≡ true → a ≡ false → b ≡ true
 or-right true b e h = absurd (true≢false h)
 or-right false b e h = e
+
+-- ---- lists
+
+-- a claim about every element of a list
+abbrev pub All : {A : Type 0} → (A → Type 0) → List A → Type 0
+All P [] = Unit
+All P (x ∷ xs) = P x × All P xs

@@ -1,75 +1,88 @@
--- Demand 3, of bytes as lent: two accepted runs of sheets that are alike, from boards that are alike, over any memories, agree in
--- answer bytes 4 to 10 of every step and in the total, which is the sum of the cycles and lies within its limits.
+-- Demand 3, of bytes as lent: every accepted run answers what the definitions have, its total is the sum of the cycles in its answers and
+-- lies within its limits; and two of them whose sheets and first boards are alike, over any memories, agree in answer bytes 4 to 10 of
+-- every step and in the total.
 use mathlib.Core.Path.{_≡_, refl, sym, ap, ap₂, _∙_}
 use mathlib.Core.Logic.{_≢_}
 use mathlib.Core.Bool.{false}
 use mathlib.Core.List.{List, [], _∷_, _++_, map}
 use Prim.Native.Nat.{ℕ, zero, suc, _+_, _-_, _*_, _%_, _≤_, _<_}
 use native.Mathlib.Omega.{arith}
-use lib.ListN.{length, getD, drop, List·getD-append}
-use lib.Seq.{getD-append-add}
+use native.Mathlib.Nat.{add-zero, add-assoc, mod-eq-of-lt}
+use lib.ListN.{length, getD, take, drop, length-map, List·getD-append}
+use lib.Seq.{getD-append-add, getD-take, getD-drop, drop-drop}
 use lib.Dec.{eqb}
 use Rattle.model.specs.Base.{bit, sum, byteAt, bytes, number, field, encoded}
 use Rattle.model.specs.Waitcnt.{prefetchEnable}
-use Rattle.model.specs.Step.{total, cycles}
+use Rattle.model.specs.Step.{Timed, timed, answer, run}
 use Rattle.model.specs.Sheet.{recordAt, recordsFrom, recordCount, recordsOf, isaState, stepOf, stepsOf}
-use Rattle.model.specs.BoardBytes.{clockOf, answerBytes, answersBytes}
-use Rattle.model.specs.Outcome.{Lent, LentBytes, Outcome, mediaOf, firstState, ran, outcome}
-use Rattle.model.specs.Alike.{AlikeRecords, AlikeSheets, AlikeBoards, cyclesFrom, Demand3}
-use Rattle.model.specs.Laws.Choice.{choose₂, tests, eqb-ne}
-use Rattle.model.specs.Laws.Timing.{Times, times, erased, timings, run-timings, run-total, timings-alike, totalOf}
-use Rattle.model.specs.Laws.Run.{All}
-use Rattle.model.specs.Laws.Limits.{timings-limits}
-use Rattle.model.specs.Laws.Fits.{AnswerFits, answers-fit, answers-length}
-use Rattle.model.specs.Laws.Refusal.{was-accepted}
-use Rattle.model.specs.Laws.Codec.{number-past, number-fits}
+use Rattle.model.specs.BoardBytes.{answerLength, clockOf, answerBytes, answersBytes}
+use Rattle.model.specs.Outcome.{Lent, LentBytes, Outcome, mediaOf, firstState, ran, outcomeBy, outcome}
+use Rattle.model.specs.Alike.{AlikeRecords, AlikeSheets, AlikeBoards, answerAt, answerStart, ReadBack, cyclesFrom, Accounts, Demand3}
+use Rattle.model.specs.Laws.Choice.{All, choose₂, tests, eqb-ne}
+use Rattle.model.specs.Laws.Times.{Times, times, SameTime, SameTimes, timings, run-timings, run-total, timings-alike, totalOf}
+use Rattle.model.specs.Laws.Run.{run-at}
+use Rattle.model.specs.Laws.Limits.{timings-limits, records-length}
+use Rattle.model.specs.Laws.Fits.{AnswerFits, answers-fit, answers-count}
+use Rattle.model.specs.Laws.Refusal.{was-accepted, record-in}
+use Rattle.model.specs.Laws.Codec.{number-past, number-fits, flag-byte}
+use Rattle.model.specs.declared.Clock.{Clock}
 use Rattle.model.specs.declared.Answer.{Answer}
 use Rattle.model.specs.declared.SheetRecord.{SheetRecord}
+use Rattle.model.specs.declared.Verdict.the-variants.{Accepted}
 use Rattle.model.specs.declared.Step.{Step}
-use Rattle.model.specs.declared.Step.the-variants.{Waitcnt, Idle, Instruction}
+use Rattle.model.specs.declared.Step.the-variants.{Waitcnt, Idle, Instruction, Latch}
 
--- ---- alike sheets have one list of steps, but for the values of WRITE and LATCH
-
-abbrev Same : Step → Step → Type 0
-Same x y = erased x ≡ erased y
+-- ---- alike sheets have steps that take the same time: the values of WRITE and LATCH take none
 
 same-step : (k z f a v u p q : ℕ) → (k ≢ 2 → k ≢ 9 → v ≡ u)
-    → Same (stepOf (record { kind = k; size = z; flag = f; «zero_byte» = p; address = a; value = v }))
+    → SameTime (stepOf (record { kind = k; size = z; flag = f; «zero_byte» = p; address = a; value = v }))
     (stepOf (record { kind = k; size = z; flag = f; «zero_byte» = q; address = a; value = u }))
 unfolding stepOf
 same-step k z f a v u p q h =
-    choose₂ Same (eqb k 1) (λ e. refl)
-    λ e₁. choose₂ Same (eqb k 2) (λ e. refl)
-    λ e₂. choose₂ Same (eqb k 3) (λ e. ap (λ (x : ℕ). Waitcnt (x % 0x1_0000)) (h (eqb-ne k 2 e₂) (omega (arith, tests))))
-    λ e₃. choose₂ Same (eqb k 4) (λ e. ap Idle (h (eqb-ne k 2 e₂) (omega (arith, tests))))
-    λ e₄. choose₂ Same (eqb k 5) (λ e. refl)
-    λ e₅. choose₂ Same (eqb k 6) (λ e. refl)
-    λ e₆. choose₂ Same (eqb k 7) (λ e. ap (λ (x : ℕ). Instruction (isaState z) a x (eqb f 1)) (h (eqb-ne k 2 e₂) (omega (arith, tests))))
-    λ e₇. choose₂ Same (eqb k 8) (λ e. refl)
-    λ e₈. refl
+    choose₂ SameTime (eqb k 1) (λ e c. refl)
+    λ e₁. choose₂ SameTime (eqb k 2) (λ e c. refl)
+    λ e₂. choose₂ SameTime (eqb k 3) (λ e. by-value (λ (x : ℕ). Waitcnt (x % 0x1_0000)) (h (eqb-ne k 2 e₂) (omega (arith, tests))))
+    λ e₃. choose₂ SameTime (eqb k 4) (λ e. by-value Idle (h (eqb-ne k 2 e₂) (omega (arith, tests))))
+    λ e₄. choose₂ SameTime (eqb k 5) (λ e c. refl)
+    λ e₅. choose₂ SameTime (eqb k 6) (λ e c. refl)
+    λ e₆. choose₂ SameTime (eqb k 7)
+    (λ e. by-value (λ (x : ℕ). Instruction (isaState z) a x (eqb f 1)) (h (eqb-ne k 2 e₂) (omega (arith, tests))))
+    λ e₇. choose₂ SameTime (eqb k 8) (λ e c. refl)
+    λ e₈ c. refl
+  where
+    by-value : (g : ℕ → Step) {x y : ℕ} → x ≡ y → SameTime (g x) (g y)
+    by-value g e c = ap (λ (n : ℕ). timed c (g n)) e
 
-alike-step : (r s : SheetRecord) → AlikeRecords r s → erased (stepOf r) ≡ erased (stepOf s)
-alike-step r s h =
-    same-step (r .kind) (r .size) (r .flag) (r .address) (r .value) (s .value) (r .«zero_byte») (s .«zero_byte») (h .value)
-    ∙ ap₂ (λ (k z : ℕ). erased (stepOf (record { kind = k; size = z; flag = r .flag; «zero_byte» = s .«zero_byte»; address = r .address; value = s .value }))) (h .kind) (h .size)
-    ∙ ap₂ (λ (f a : ℕ). erased (stepOf (record { kind = s .kind; size = s .size; flag = f; «zero_byte» = s .«zero_byte»; address = a; value = s .value }))) (h .flag) (h .address)
+alike-step : (r s : SheetRecord) → AlikeRecords r s → SameTime (stepOf r) (stepOf s)
+alike-step r s h c =
+    same-step (r .kind) (r .size) (r .flag) (r .address) (r .value) (s .value) (r .«zero_byte») (s .«zero_byte») (h .value) c
+    ∙ ap₂ (λ (k z : ℕ). of k z (r .flag) (r .address)) (h .kind) (h .size)
+    ∙ ap₂ (λ (f a : ℕ). of (s .kind) (s .size) f a) (h .flag) (h .address)
+  where
+    of : ℕ → ℕ → ℕ → ℕ → Timed
+    of k z f a = timed c (stepOf (record { kind = k; size = z; flag = f; «zero_byte» = s .«zero_byte»; address = a; value = s .value }))
 
 alike-steps : (s t : List ℕ) (k n : ℕ) → ((j : ℕ) → j < k + n → AlikeRecords (recordAt s j) (recordAt t j))
-    → map erased (map stepOf (recordsFrom s k n)) ≡ map erased (map stepOf (recordsFrom t k n))
+    → SameTimes (map stepOf (recordsFrom s k n)) (map stepOf (recordsFrom t k n))
 unfolding recordsFrom
-alike-steps s t k zero h = refl
+alike-steps s t k zero h = tt
 alike-steps s t k (suc n) h =
-    ap₂ (λ (x : Step) (xs : List Step). x ∷ xs) (alike-step (recordAt s k) (recordAt t k) (h k (omega arith)))
-    (alike-steps s t (k + 1) n (λ j l. h j (omega arith)))
+    (alike-step (recordAt s k) (recordAt t k) (h k (omega arith)), alike-steps s t (k + 1) n (λ j l. h j (omega arith)))
 
 -- ---- alike boards have one clock
 
--- a number whose bytes agree
+-- numbers whose bytes agree, each from a place of its own on
+same-number-at : (n i k : ℕ) (b c : List ℕ) → ((j : ℕ) → j < n → byteAt b (i + j) ≡ byteAt c (k + j)) → number n b i ≡ number n c k
+same-number-at zero i k b c h = refl
+same-number-at (suc n) i k b c h =
+    ap₂ (λ (x y : ℕ). x + 256 * y) (rw (add-zero i, add-zero k) at (h 0 (omega arith)))
+    (same-number-at n (i + 1) (k + 1) b c (λ j l. rw (add-assoc i 1 j, add-assoc k 1 j, one-more j) (h (j + 1) (omega arith))))
+  where
+    one-more : (j : ℕ) → 1 + j ≡ j + 1
+    one-more j = omega arith
+
 same-number : (n i : ℕ) (b c : List ℕ) → ((j : ℕ) → i ≤ j → j < i + n → byteAt b j ≡ byteAt c j) → number n b i ≡ number n c i
-same-number zero i b c h = refl
-same-number (suc n) i b c h =
-    ap₂ (λ (x y : ℕ). x + 256 * y) (h i (omega arith) (omega arith))
-    (same-number n (i + 1) b c (λ j l u. h j (omega arith) (omega arith)))
+same-number n i b c h = same-number-at n i i b c (λ j l. h (i + j) (omega arith) (omega arith))
 
 alike-count : (s t : List ℕ) → AlikeSheets s t → recordCount s ≡ recordCount t
 alike-count s t h = same-number 2 6 s t (λ j l u. h .header j (omega arith))
@@ -102,27 +115,47 @@ module _ (b c : List ℕ) (h : AlikeBoards b c) where
 
 -- ---- the answers, as bytes
 
--- bytes 4 to 10 of an answer
+-- the bytes of answer k
+answer-there : (xs : List Answer) (rest : List ℕ) (k : ℕ) (d : Answer) → k < length xs
+    → take answerLength (drop (answerStart k) (answersBytes xs ++ rest)) ≡ answerBytes (getD xs k d)
+answer-there [] rest k d h = absurd (omega arith)
+answer-there (x ∷ xs) rest zero d h = refl
+answer-there (x ∷ xs) rest (suc k) d h =
+    let e : answerStart (suc k) ≡ 12 + answerStart k = omega arith in
+    ap (λ (n : ℕ). take answerLength (drop n (answersBytes (x ∷ xs) ++ rest))) e
+    ∙ ap (take answerLength) (sym (drop-drop (answerStart k) 12 (answersBytes (x ∷ xs) ++ rest)))
+    ∙ answer-there xs rest k d (omega arith)
+
+-- a byte of it
+module _ (b : List ℕ) (k : ℕ) (x : Answer) (e : take answerLength (drop (answerStart k) b) ≡ answerBytes x) where
+  byte-there : (at : ℕ) → at < answerLength → byteAt b (answerStart k + at) ≡ byteAt (answerBytes x) at
+  byte-there at h =
+      sym (getD-drop (answerStart k) b at 0) ∙ sym (getD-take answerLength (drop (answerStart k) b) at 0 h) ∙ ap (λ (l : List ℕ). byteAt l at) e
+
+  number-there : (n at : ℕ) → at + n ≤ answerLength → number n b (answerStart k + at) ≡ number n (answerBytes x) at
+  number-there n at h = same-number-at n (answerStart k + at) at b (answerBytes x) (λ j l. rw add-assoc (byte-there (at + j) (omega arith)))
+
+  read-back : AnswerFits x → ReadBack b k x
+  read-back f =
+      record {
+        value = rw (add-zero (answerStart k)) at (number-there 4 0 (omega arith)) ∙ number-fits 4 (x .value) [] (omega (arith, f .value));
+        cycles = number-there 4 4 (omega arith) ∙ number-fits 4 (x .cycles) [] (omega (arith, f .cycles));
+        hits = byte-there 8 (omega arith) ∙ mod-eq-of-lt (omega (arith, f .hits));
+        count = byte-there 9 (omega arith) ∙ mod-eq-of-lt (omega (arith, f .count));
+        force = byte-there 10 (omega arith) ∙ flag-byte (x .force);
+        zero-byte = byte-there 11 (omega arith);
+      }
+
+-- bytes 4 to 10 of an answer are its times
 abbrev timesBytes : Times → List ℕ
 timesBytes t = encoded (field 4 (t .cycles) ∷ field 1 (t .hits) ∷ field 1 (t .count) ∷ field 1 (bit (t .force)) ∷ [])
 
-abbrev noTimes : Times
-noTimes = record { cycles = 0; hits = 0; count = 0; force = false }
-
--- byte `at` of answer k is one of its times
-answer-byte : (xs : List Answer) (rest : List ℕ) (k at : ℕ) → k < length xs → 4 ≤ at → at ≤ 10
-    → byteAt (answersBytes xs ++ rest) (12 * k + at) ≡ byteAt (timesBytes (getD (map times xs) k noTimes)) (at - 4)
-answer-byte [] rest k at h l u = absurd (omega arith)
-answer-byte (x ∷ xs) rest zero at h l u =
-    let e : 12 * 0 + at ≡ 4 + (at - 4) = omega arith in
-    ap (byteAt (answersBytes (x ∷ xs) ++ rest)) e
-    ∙ getD-append-add (bytes 4 (x .value)) (timesBytes (times x) ++ (0 ∷ (answersBytes xs ++ rest))) (at - 4) 0
-    ∙ List·getD-append (timesBytes (times x)) (0 ∷ (answersBytes xs ++ rest)) 0 (at - 4) (omega arith)
-answer-byte (x ∷ xs) rest (suc k) at h l u =
-    let e : 12 * suc k + at ≡ 12 + (12 * k + at) = omega arith in
-    ap (byteAt (answersBytes (x ∷ xs) ++ rest)) e
-    ∙ getD-append-add (answerBytes x) (answersBytes xs ++ rest) (12 * k + at) 0
-    ∙ answer-byte xs rest k at (omega arith) l u
+time-byte : (x : Answer) (at : ℕ) → 4 ≤ at → at ≤ 10 → byteAt (answerBytes x) at ≡ byteAt (timesBytes (times x)) (at - 4)
+time-byte x at l u =
+    let e : at ≡ 4 + (at - 4) = omega arith in
+    ap (byteAt (answerBytes x)) e
+    ∙ getD-append-add (bytes 4 (x .value)) (timesBytes (times x) ++ (0 ∷ [])) (at - 4) 0
+    ∙ List·getD-append (timesBytes (times x)) (0 ∷ []) 0 (at - 4) (omega arith)
 
 -- the cycles stand in the answers as they are
 cycles-past : (x : Answer) (b : List ℕ) (k n : ℕ) → cyclesFrom (answerBytes x ++ b) (suc k) n ≡ cyclesFrom b k n
@@ -143,45 +176,105 @@ cycles-stand (x ∷ xs) rest a =
 
 -- ---- an accepted run
 
-module _ (i : Lent) (ok : (outcome i) .number ≡ 0) where
+abbrev noTimes : Times
+noTimes = record { cycles = 0; hits = 0; count = 0; force = false }
+
+abbrev noAnswer : Answer
+noAnswer = record { value = 0; cycles = 0; hits = 0; count = 0; force = false }
+
+map-getD : (xs : List Answer) (k : ℕ) → times (getD xs k noAnswer) ≡ getD (map times xs) k noTimes
+map-getD [] k = refl
+map-getD (x ∷ xs) zero = refl
+map-getD (x ∷ xs) (suc k) = map-getD xs k
+
+step-at : (rs : List SheetRecord) (k : ℕ) (d : SheetRecord) → k < length rs → getD (map stepOf rs) k (Latch 0) ≡ stepOf (getD rs k d)
+step-at [] k d h = absurd (omega arith)
+step-at (r ∷ rs) zero d h = refl
+step-at (r ∷ rs) (suc k) d h = step-at rs k d (omega arith)
+
+module _ (i : Lent) (o : Outcome) (ok : o ≡ outcome i) (zero-number : o .number ≡ 0) where
+  accepted : (outcome i) .number ≡ 0
+  accepted = sym (ap (λ (x : Outcome). x .number) ok) ∙ zero-number
+
+  whole : o ≡ outcomeBy i Accepted
+  whole = ok ∙ was-accepted i accepted
+
+  -- answer k is that of step k after the first k steps
+  answer-is : (k : ℕ) → k < recordCount (i .sheet) → getD ((ran i) .answers) k noAnswer ≡ answerAt i k
+  unfolding ran answerAt
+  answer-is k h =
+      let n = records-length (i .sheet) 0 (recordCount (i .sheet)) in
+      let m = length-map (recordsOf (i .sheet)) stepOf in
+      run-at (mediaOf i) (firstState i) (stepsOf (i .sheet)) k noAnswer (Latch 0) (omega (arith, n, m))
+      ∙ ap (answer (mediaOf i) ((run (mediaOf i) (firstState i) (take k (stepsOf (i .sheet)))) .state))
+      (step-at (recordsOf (i .sheet)) k (recordAt (i .sheet) 0) (omega (arith, n))
+      ∙ ap stepOf (record-in (i .sheet) 0 (recordCount (i .sheet)) k (recordAt (i .sheet) 0) h ∙ ap (recordAt (i .sheet)) (omega arith)))
+
+  bytes-are : (k : ℕ) → k < recordCount (i .sheet) → take answerLength (drop (answerStart k) (o .answers)) ≡ answerBytes (answerAt i k)
+  bytes-are k h =
+      ap (λ (x : Outcome). take answerLength (drop (answerStart k) (x .answers))) whole
+      ∙ answer-there ((ran i) .answers) _ k noAnswer (omega (arith, answers-count i))
+      ∙ ap answerBytes (answer-is k h)
+
+  all-fit : (xs : List Answer) → All AnswerFits xs → (k : ℕ) → k < length xs → AnswerFits (getD xs k noAnswer)
+  all-fit [] f k h = absurd (omega arith)
+  all-fit (x ∷ xs) f zero h = f .0
+  all-fit (x ∷ xs) f (suc k) h = all-fit xs (f .1) k (omega arith)
+
+  time-total : o .total ≡ totalOf (timings (clockOf (i .board)) (stepsOf (i .sheet)))
+  unfolding ran
+  time-total = ap (λ (x : Outcome). x .total) whole ∙ run-total (mediaOf i) (firstState i) (stepsOf (i .sheet))
+
+  sum-stands : LentBytes i → o .total ≡ sum (cyclesFrom (o .answers) 0 (recordCount (i .sheet)))
+  sum-stands lent =
+      rw whole
+      (ap sum
+      (sym (cycles-stand ((ran i) .answers) _ (answers-fit i lent accepted))
+      ∙ ap (cyclesFrom (answersBytes ((ran i) .answers) ++ drop (answerLength * recordCount (i .sheet)) (i .answers)) 0) (answers-count i)))
+
+  pub accounts : Accounts i o
+  accounts =
+      record {
+        bytes = bytes-are;
+        fields = λ lent k h.
+            read-back (o .answers) k (answerAt i k) (bytes-are k h)
+            (rw (answer-is k h) at (all-fit ((ran i) .answers) (answers-fit i lent accepted) k (omega (arith, answers-count i))));
+        summed = sum-stands;
+        limits = rw time-total (timings-limits (clockOf (i .board)) (recordsOf (i .sheet)));
+      }
+
   column : (k at : ℕ) → k < recordCount (i .sheet) → 4 ≤ at → at ≤ 10
-      → byteAt ((outcome i) .answers) (12 * k + at) ≡ byteAt (timesBytes (getD (timings (clockOf (i .board)) (stepsOf (i .sheet))) k noTimes)) (at - 4)
+      → byteAt (o .answers) (answerStart k + at)
+      ≡ byteAt (timesBytes (getD (timings (clockOf (i .board)) (stepsOf (i .sheet))) k noTimes)) (at - 4)
   unfolding ran
   column k at h l u =
-      ap (λ (o : Outcome). byteAt (o .answers) (12 * k + at)) (was-accepted i ok)
-      ∙ answer-byte ((ran i) .answers) (drop (12 * recordCount (i .sheet)) (i .answers)) k at (omega (arith, answers-length i)) l u
-      ∙ ap (λ (ts : List Times). byteAt (timesBytes (getD ts k noTimes)) (at - 4)) (run-timings (mediaOf i) (firstState i) (stepsOf (i .sheet)))
-
-  time-total : (outcome i) .total ≡ totalOf (timings (clockOf (i .board)) (stepsOf (i .sheet)))
-  unfolding ran
-  time-total = ap (λ (o : Outcome). o .total) (was-accepted i ok) ∙ run-total (mediaOf i) (firstState i) (stepsOf (i .sheet))
-
-  sum-stands : LentBytes i → (outcome i) .total ≡ sum (cyclesFrom ((outcome i) .answers) 0 (recordCount (i .sheet)))
-  sum-stands lent =
-      rw (was-accepted i ok)
-      (ap sum
-      (sym (cycles-stand ((ran i) .answers) (drop (12 * recordCount (i .sheet)) (i .answers)) (answers-fit i lent ok))
-      ∙ ap (cyclesFrom (answersBytes ((ran i) .answers) ++ drop (12 * recordCount (i .sheet)) (i .answers)) 0) (answers-length i)))
+      byte-there (o .answers) k (answerAt i k) (bytes-are k h) at (omega arith)
+      ∙ time-byte (answerAt i k) at l u
+      ∙ ap (λ (x : Answer). byteAt (timesBytes (times x)) (at - 4)) (sym (answer-is k h))
+      ∙ ap (λ (t : Times). byteAt (timesBytes t) (at - 4))
+      (map-getD ((ran i) .answers) k ∙ ap (λ (ts : List Times). getD ts k noTimes) (run-timings (mediaOf i) (firstState i) (stepsOf (i .sheet))))
 
 -- ---- the theorem
 
-pub demand3 : (i j : Lent) → LentBytes i → (outcome i) .number ≡ 0 → (outcome j) .number ≡ 0
-    → AlikeSheets (i .sheet) (j .sheet) → AlikeBoards (i .board) (j .board) → Demand3 i j
-demand3 i j lent okᵢ okⱼ s b =
+pub demand3 : (i j : Lent) (o p : Outcome) → o ≡ outcome i → p ≡ outcome j → o .number ≡ 0 → p .number ≡ 0
+    → AlikeSheets (i .sheet) (j .sheet) → AlikeBoards (i .board) (j .board) → Demand3 i j o p
+demand3 i j o p e f m n s b =
     record {
       columns = λ k at h l u.
-          column i okᵢ k at h l u
-          ∙ ap (λ (ts : List Times). byteAt (timesBytes (getD ts k noTimes)) (at - 4)) one
-          ∙ sym (column j okⱼ k at (omega (arith, alike-count (i .sheet) (j .sheet) s)) l u);
-      totals = time-total i okᵢ ∙ ap totalOf one ∙ sym (time-total j okⱼ);
-      summed = sum-stands i okᵢ lent;
-      limits = rw (time-total i okᵢ) (timings-limits (clockOf (i .board)) (recordsOf (i .sheet)));
+          column i o e m k at h l u
+          ∙ ap (λ (ts : List Times). byteAt (timesBytes (getD ts k noTimes)) (at - 4)) same
+          ∙ sym (column j p f n k at (omega (arith, alike-count (i .sheet) (j .sheet) s)) l u);
+      totals = time-total i o e m ∙ ap totalOf same ∙ sym (time-total j p f n);
+      one = accounts i o e m;
+      other = accounts j p f n;
     }
   where
-    steps : map erased (stepsOf (i .sheet)) ≡ map erased (stepsOf (j .sheet))
+    steps : SameTimes (stepsOf (i .sheet)) (stepsOf (j .sheet))
     steps =
-        alike-steps (i .sheet) (j .sheet) 0 (recordCount (i .sheet)) (λ k h. s .records k (omega arith))
-        ∙ ap (λ (n : ℕ). map erased (map stepOf (recordsFrom (j .sheet) 0 n))) (alike-count (i .sheet) (j .sheet) s)
+        rw (← alike-count (i .sheet) (j .sheet) s)
+        (alike-steps (i .sheet) (j .sheet) 0 (recordCount (i .sheet)) (λ k h. s .records k (omega arith)))
 
-    one : timings (clockOf (i .board)) (stepsOf (i .sheet)) ≡ timings (clockOf (j .board)) (stepsOf (j .sheet))
-    one = timings-alike (clockOf (i .board)) (clockOf (j .board)) (stepsOf (i .sheet)) (stepsOf (j .sheet)) (alike-clock (i .board) (j .board) b) steps
+    same : timings (clockOf (i .board)) (stepsOf (i .sheet)) ≡ timings (clockOf (j .board)) (stepsOf (j .sheet))
+    same =
+        timings-alike (clockOf (i .board)) (stepsOf (i .sheet)) (stepsOf (j .sheet)) steps
+        ∙ ap (λ (c : Clock). timings c (stepsOf (j .sheet))) (alike-clock (i .board) (j .board) b)

@@ -11,12 +11,13 @@ use Rattle.model.specs.Waitcnt.{written, prefetchEnable, nWaits, sWaits,
 use Rattle.model.specs.Wait.{window, kindAt, romHalfCycles}
 use Rattle.model.specs.Prefetch.{setEnabled, restart, startBeat, arrived, ended, advance, ready, tick1, ticks, arrives, filled, occupied, hit, taken, fetched}
 use Rattle.model.specs.DisableBug.{armInternal, thumbInternal}
-use Rattle.model.specs.Timing.{romHalf, plainFetch, fetchCycles, cartIdle, disableBug, priceInsn}
-use Rattle.model.specs.Price.{dataCycles}
+use Rattle.model.specs.Price.{dataBeats}
+use Rattle.model.specs.Timing.{halfBeat, plainBeat, fetchBeats, cartIdle, disableBug, priceInsn}
 use Rattle.model.specs.Video.{objVramBase, isObjVram}
-use Rattle.model.specs.Load.{byteIn, sramByte, biosByte, load8, load16, load32}
-use Rattle.model.specs.Store.{put, putHalf, target, modeOf, puts8, puts16, putsPair, puts32}
-use Rattle.model.specs.Step.{Media, Result, setWaitcnt, codeHits, codeFetched, halfAt, countStore, run, freshBoard}
+use Rattle.model.specs.Memory.{byteIn, target}
+use Rattle.model.specs.Load.{sramByte, biosByte, load8, load16, load32}
+use Rattle.model.specs.Store.{put, modeOf, puts}
+use Rattle.model.specs.Step.{Media, Result, setWaitcnt, codeHits, codeFetched, codeClock, halfAt, countStore, run, freshBoard}
 use Rattle.model.specs.declared.Answer.{Answer}
 use Rattle.model.specs.declared.Region.the-variants.{Ewram, Vram}
 use Rattle.model.specs.declared.AccessSize.the-variants.{Byte, Half, Word}
@@ -24,9 +25,25 @@ use Rattle.model.specs.declared.IsaState.the-variants.{Arm, Thumb}
 use Rattle.model.specs.declared.Step.{Step}
 use Rattle.model.specs.declared.Step.the-variants.{Read, Write, Waitcnt, Idle, Restart, Instruction}
 
--- to unfold this is to unfold the whole machine
+-- to unfold this is to unfold the whole machine, in four parts
+unfoldable pub clocks : Unit {0}
+unfolding written prefetchEnable nWaits sWaits romWaits window kindAt romHalfCycles setEnabled restart startBeat arrived ended advance
+clocks = tt
+
+unfoldable pub buffers : Unit {0}
+unfolding ready tick1 ticks arrives filled occupied hit taken fetched
+buffers = tt
+
+unfoldable pub prices : Unit {0}
+unfolding armInternal thumbInternal halfBeat plainBeat fetchBeats cartIdle disableBug priceInsn dataBeats
+prices = tt
+
+unfoldable pub memories : Unit {0}
+unfolding decode vramOffset ioOffset objVramBase isObjVram byteIn sramByte biosByte load8 load16 load32 put target modeOf puts
+memories = tt
+
 unfoldable pub machine : Unit {0}
-unfolding decode vramOffset ioOffset written prefetchEnable nWaits sWaits romWaits window kindAt romHalfCycles setEnabled restart startBeat arrived ended advance ready tick1 ticks arrives filled occupied hit taken fetched armInternal thumbInternal romHalf plainFetch fetchCycles cartIdle disableBug priceInsn dataCycles objVramBase isObjVram byteIn sramByte biosByte load8 load16 load32 put putHalf target modeOf puts8 puts16 putsPair puts32 setWaitcnt codeHits codeFetched halfAt countStore run
+unfolding clocks buffers prices memories setWaitcnt codeHits codeFetched codeClock halfAt countStore run
 machine = tt
 
 -- ---- a run from the fresh board
@@ -49,8 +66,19 @@ cyclesIn r = map (λ (x : Answer). x .cycles) (r .answers)
 abbrev pub countsIn : Result → List ℕ
 countsIn r = map (λ (x : Answer). x .count) (r .answers)
 
+abbrev pub vramCount : Result → ℕ
+vramCount r = r .state .board .contents .«vram_write_count»
+
 abbrev pub valuesIn : Result → List ℕ
 valuesIn r = map (λ (x : Answer). x .value) (r .answers)
+
+-- a byte stored in a VRAM of full size, in a display mode
+abbrev pub vramByte : ℕ → List ℕ → ℕ → Result
+vramByte mode vram a = from (media 1 98304 0) (mode ∷ vram) (Write Byte a 0x5A ∷ [])
+
+-- what is left, and the halfwords counted
+abbrev pub Leaves : ℕ → Result → List ℕ → Type 0
+Leaves n r store = (r .state .store ≡ store) × (vramCount r ≡ n)
 
 -- ---- the figures
 
@@ -69,11 +97,10 @@ pub record WorkedFigures : Type 0 where
   -- the store is SRAM alone
   pub sram-half : (sram : List ℕ) → (from (media 0 0 8192) sram (Write Half 0x0E00_0001 0x1234 ∷ [])) .state .store ≡ set sram 1 0x12
   pub rom-end : valuesIn (bare (Read Word 0x0DFF_FFFE ∷ [])) ≡ 0xFFFF_0000 ∷ []
-  -- the store is one byte of I/O, which holds the mode, and VRAM
-  pub object-mode-0 : (vram : List ℕ) → (from (media 1 98304 0) (0 ∷ vram) (Write Byte 0x0601_0000 0x5A ∷ [])) .state .store ≡ 0 ∷ vram
-  pub bitmap-mode-3 : (vram : List ℕ)
-      → (from (media 1 98304 0) (3 ∷ vram) (Write Byte 0x0601_0000 0x5A ∷ [])) .state .store ≡ 3 ∷ set (set vram 0x10000 0x5A) 0x10001 0x5A
-  pub object-mode-3 : (vram : List ℕ) → (from (media 1 98304 0) (3 ∷ vram) (Write Byte 0x0601_4000 0x5A ∷ [])) .state .store ≡ 3 ∷ vram
+  -- the store is one byte of I/O, which holds the mode, and VRAM. A byte that is dropped isn't counted
+  pub object-mode-0 : (vram : List ℕ) → Leaves 0 (vramByte 0 vram 0x0601_0000) (0 ∷ vram)
+  pub bitmap-mode-3 : (vram : List ℕ) → Leaves 1 (vramByte 3 vram 0x0601_0000) (3 ∷ set (set vram 0x10000 0x5A) 0x10001 0x5A)
+  pub object-mode-3 : (vram : List ℕ) → Leaves 0 (vramByte 3 vram 0x0601_4000) (3 ∷ vram)
 
 pub worked-figures : WorkedFigures
 unfolding machine
@@ -92,7 +119,7 @@ worked-figures =
       bx = refl;
       sram-half = λ sram. refl;
       rom-end = refl;
-      object-mode-0 = λ vram. refl;
-      bitmap-mode-3 = λ vram. refl;
-      object-mode-3 = λ vram. refl;
+      object-mode-0 = λ vram. (refl, refl);
+      bitmap-mode-3 = λ vram. (refl, refl);
+      object-mode-3 = λ vram. (refl, refl);
     }

@@ -1,29 +1,32 @@
--- Nothing is cut off: every answer's cycles, hits and count fit their bytes, and the total is at most 4096 (2^32 - 1). The board that an
--- accepted run writes is sound.
+-- Nothing is cut off: every answer's value, cycles, hits and count fit their bytes, and the total is at most 4096 (2^32 - 1). The board
+-- that an accepted run writes is sound.
 use mathlib.Core.Path.{_≡_, refl, ap, _∙_}
 use mathlib.Core.Bool.{Bool, true}
 use mathlib.Core.List.{List, [], _∷_, map}
-use Prim.Native.Nat.{ℕ, zero, suc, _*_, _/_, _%_, _^_, _≤_, _<_}
+use Prim.Native.Nat.{ℕ, zero, suc, _+_, _*_, _/_, _%_, _^_, _≤_, _<_}
 use native.Mathlib.Omega.{arith}
 use lib.ListN.{length, length-map}
 use lib.Dec.{eqb, leb}
 use borrow.Author.Tests.{eqb-true, leb-true, eq-eqb, le-leb}
 use Rattle.model.specs.Base.{bit, sum, byteAt, number, AllBytes}
-use Rattle.model.specs.Step.{Media, State, run, total, cycles, hits, freshBoard}
-use Rattle.model.specs.Sheet.{maxRecords, isShaped, recordCount, recordsOf, stepOf, stepsOf}
-use Rattle.model.specs.BoardBytes.{clockOf, boardBytes, soundPrefetch, soundBytes, sound}
+use Rattle.model.specs.Step.{Media, State, run, timed, stepped, answer, freshBoard}
+use Rattle.model.specs.Sheet.{maxRecords, isShaped, recordStart, recordCount, recordAt, recordsFrom, recordsOf, stepOf, stepsOf}
+use Rattle.model.specs.BoardBytes.{boardLength, clockOf, boardOf, boardBytes, soundPrefetch, soundBytes, sound}
 use Rattle.model.specs.Outcome.{Lent, LentBytes, Outcome, mediaOf, firstState, ran, outcome}
-use Rattle.model.specs.Laws.Choice.{parts, and-true, bit≤1}
-use Rattle.model.specs.Laws.Bounds.{idles, cycles-fit, hits≤2}
+use Rattle.model.specs.Laws.Choice.{All, choose, parts, and-true, bit≤1}
+use Rattle.model.specs.Laws.Bounds.{step-bounded}
 use Rattle.model.specs.Laws.Sound.{Stands, SoundClock, clockAfter-sound, fresh-sound}
 use Rattle.model.specs.Laws.SoundTest.{sound-true, true-sound}
-use Rattle.model.specs.Laws.Run.{All, run-all, run-length, run-sound, run-halves}
-use Rattle.model.specs.Laws.Codec.{ClockFits, number-below, clock-back, board-length, zero-byte, zero-word, force-byte, filling-byte, first-byte}
-use Rattle.model.specs.Laws.Limits.{idles-small, records-length}
+use Rattle.model.specs.Laws.Run.{run-length, run-sound, run-halves}
+use Rattle.model.specs.Laws.Codec.{ClockFits, Fits, number-below, decoded-fits, clock-back, board-length, zero-byte, zero-word}
+use Rattle.model.specs.Laws.Codec.{force-byte, filling-byte, first-byte}
+use Rattle.model.specs.Laws.Values.{MediaBytes, Held, SmallLatch, changed-fits, stepped-held}
+use Rattle.model.specs.Laws.Limits.{cycles-fit, records-length}
 use Rattle.model.specs.Laws.Refusal.{Acceptable, zero-exactly, was-accepted}
 use Rattle.model.specs.declared.Clock.{Clock}
 use Rattle.model.specs.declared.Board.{Board}
 use Rattle.model.specs.declared.Answer.{Answer}
+use Rattle.model.specs.declared.SheetRecord.{SheetRecord}
 use Rattle.model.specs.declared.Step.{Step}
 
 -- ---- soundness, of bytes
@@ -74,7 +77,7 @@ pub written-sound : (b : Board) → SoundClock (b .clock) → length (b .halves)
 unfolding sound soundBytes
 written-sound b k eight =
     and-true _ _
-    (and-true _ _ (eq-eqb (length (boardBytes b)) 72 (board-length b eight))
+    (and-true _ _ (eq-eqb (length (boardBytes b)) boardLength (board-length b eight))
     (and-true _ _
     (and-true _ _
     (and-true _ _
@@ -92,32 +95,79 @@ fresh-board = written-sound freshBoard fresh-sound refl
 -- ---- the fields of an answer
 
 pub record AnswerFits (x : Answer) : Type 0 where
+  pub value : x .value < 2 ^ 32
   pub cycles : x .cycles ≤ 0xFFFF_FFFF
   pub hits : x .hits ≤ 2
   pub count : x .count ≤ 8
 
-run-fits : (m : Media) (s : State) (xs : List Step) → SoundClock (s .board .clock) → All (λ (x : Step). idles x ≤ 0xFFFF_FFFF) xs
-    → All AnswerFits ((run m s xs) .answers)
-run-fits m =
-    run-all (λ (s : State). SoundClock (s .board .clock)) (λ (x : Step). idles x ≤ 0xFFFF_FFFF) AnswerFits m
-    (λ s x k h.
-    record {
-      cycles = cycles-fit (s .board .clock) x h;
-      hits = hits≤2 (s .board .clock) x;
-      count = (clockAfter-sound (s .board .clock) x k) .buffer .count≤8;
-    })
-    (λ s x k. clockAfter-sound (s .board .clock) x k)
+-- a step whose numbers have 32 bits
+record StepFits (x : Step) : Type 0 where
+  latch : SmallLatch x
+  cycles : (c : Clock) → (timed c x) .cycles ≤ 0xFFFF_FFFF
+
+-- a state that a run can be in
+record Fine (s : State) : Type 0 where
+  clock : SoundClock (s .board .clock)
+  held : Held s
+
+module _ (m : Media) (b : MediaBytes m) where
+  answer-fits : (s : State) (x : Step) → Fine s → StepFits x → AnswerFits (answer m s x)
+  answer-fits s x f h =
+      record {
+        value = (changed-fits m b s (f .held) x (h .latch)) .value;
+        cycles = h .cycles (s .board .clock);
+        hits = (step-bounded (s .board .clock) x) .hits;
+        count = (clockAfter-sound (s .board .clock) x (f .clock)) .buffer .count≤8;
+      }
+
+  stepped-fine : (s : State) (x : Step) → Fine s → StepFits x → Fine (stepped m s x)
+  stepped-fine s x f h =
+      record { clock = clockAfter-sound (s .board .clock) x (f .clock); held = stepped-held m b s (f .held) x (h .latch) }
+
+  run-fits : (s : State) (xs : List Step) → Fine s → All StepFits xs → All AnswerFits ((run m s xs) .answers)
+  unfolding run
+  run-fits s [] f h = tt
+  run-fits s (x ∷ xs) f h = (answer-fits s x f (h .0), run-fits (stepped m s x) xs (stepped-fine s x f (h .0)) (h .1))
 
 sum-fits : (xs : List Answer) → All AnswerFits xs → sum (map (λ (x : Answer). x .cycles) xs) ≤ 0xFFFF_FFFF * length xs
 sum-fits [] a = omega arith
 sum-fits (x ∷ xs) a = omega (arith, a .0 .cycles, sum-fits xs (a .1))
 
+-- ---- the records of a sheet of bytes
+
+latch-small : (r : SheetRecord) → r .value < 2 ^ 32 → SmallLatch (stepOf r)
+unfolding stepOf
+latch-small r h =
+    choose SmallLatch (eqb (r .kind) 1) (λ e v y. no cc)
+    λ e₁. choose SmallLatch (eqb (r .kind) 2) (λ e v y. no cc)
+    λ e₂. choose SmallLatch (eqb (r .kind) 3) (λ e v y. no cc)
+    λ e₃. choose SmallLatch (eqb (r .kind) 4) (λ e v y. no cc)
+    λ e₄. choose SmallLatch (eqb (r .kind) 5) (λ e v y. no cc)
+    λ e₅. choose SmallLatch (eqb (r .kind) 6) (λ e v y. no cc)
+    λ e₆. choose SmallLatch (eqb (r .kind) 7) (λ e v y. no cc)
+    λ e₇. choose SmallLatch (eqb (r .kind) 8) (λ e v y. no cc)
+    λ e₈ v y. let same : r .value ≡ v = cc in rw (← same) h
+  where
+    no : {A : Type 0} → _≡_ {A = ℕ} 0 1 → A
+    no z = absurd (omega arith)
+
+record-fits : (s : List ℕ) (k : ℕ) → AllBytes s → StepFits (stepOf (recordAt s k))
+unfolding recordAt
+record-fits s k h =
+    let small = number-below 4 (recordStart k + 8) s h in
+    record { latch = latch-small (recordAt s k) small; cycles = λ c. cycles-fit c (recordAt s k) (omega arith) }
+
+records-fit : (s : List ℕ) (k n : ℕ) → AllBytes s → All StepFits (map stepOf (recordsFrom s k n))
+unfolding recordsFrom
+records-fit s k zero h = tt
+records-fit s k (suc n) h = (record-fits s k h, records-fit s (k + 1) n h)
+
 -- ---- an accepted run
 
 -- an answer a record
-pub answers-length : (i : Lent) → length ((ran i) .answers) ≡ recordCount (i .sheet)
+pub answers-count : (i : Lent) → length ((ran i) .answers) ≡ recordCount (i .sheet)
 unfolding ran
-answers-length i =
+answers-count i =
     run-length (mediaOf i) (firstState i) (stepsOf (i .sheet)) ∙ length-map (recordsOf (i .sheet)) stepOf
     ∙ records-length (i .sheet) 0 (recordCount (i .sheet))
 
@@ -128,17 +178,24 @@ module _ (i : Lent) (lent : LentBytes i) (ok : (outcome i) .number ≡ 0) where
   pub first-sound : SoundClock (clockOf (i .board))
   first-sound = sound-clock (i .board) (lent .board) (acceptable .board)
 
+  first-held : Held (firstState i)
+  first-held =
+      let f : Fits (boardOf (i .board)) = decoded-fits (i .board) (lent .board) in
+      record { store = lent .store; halves = f .halves-fit .halves-fit; latch = f .contents-fits .opcode-fits }
+
   pub answers-fit : All AnswerFits ((ran i) .answers)
   unfolding ran
   answers-fit =
-      run-fits (mediaOf i) (firstState i) (stepsOf (i .sheet)) first-sound (idles-small (i .sheet) 0 (recordCount (i .sheet)) (lent .sheet))
+      run-fits (mediaOf i) (record { bios = lent .bios; rom = lent .rom }) (firstState i) (stepsOf (i .sheet))
+      (record { clock = first-sound; held = first-held })
+      (records-fit (i .sheet) 0 (recordCount (i .sheet)) (lent .sheet))
 
   pub total-fits : (outcome i) .total ≤ 4096 * 0xFFFF_FFFF
   total-fits =
       let shaped : isShaped (i .sheet) ≡ true = acceptable .shaped in
       let few : leb (recordCount (i .sheet)) maxRecords ≡ true = search parts in
       let most : recordCount (i .sheet) ≤ 4096 = leb-true (recordCount (i .sheet)) 4096 few in
-      rw (was-accepted i ok) (omega (arith, sum-fits ((ran i) .answers) answers-fit, answers-length i))
+      rw (was-accepted i ok) (omega (arith, sum-fits ((ran i) .answers) answers-fit, answers-count i))
 
   pub board-sound : sound ((outcome i) .board) ≡ true
   unfolding ran

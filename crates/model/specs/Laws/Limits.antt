@@ -7,66 +7,67 @@ use native.Mathlib.Omega.{arith}
 use lib.ListN.{length}
 use lib.Dec.{eqb}
 use borrow.Author.Tests.{eqb-true}
-use Rattle.model.specs.Base.{if_then_else_, bit, AllBytes}
-use Rattle.model.specs.Step.{cycles, clockAfter}
-use Rattle.model.specs.Sheet.{recordAt, recordsFrom, stepOf}
+use Rattle.model.specs.Base.{if_then_else_, bit}
+use Rattle.model.specs.Step.{timed, clockAfter}
+use Rattle.model.specs.Sheet.{recordsFrom, stepOf}
 use Rattle.model.specs.Alike.{Limits}
-use Rattle.model.specs.Laws.Choice.{choose, either}
-use Rattle.model.specs.Laws.Bounds.{Between, instructions, accesses, idles, step-between}
-use Rattle.model.specs.Laws.Codec.{number-below}
-use Rattle.model.specs.Laws.Timing.{timings, totalOf}
-use Rattle.model.specs.Laws.Run.{All}
+use Rattle.model.specs.Laws.Choice.{choose, by-test, bit≤1}
+use Rattle.model.specs.Laws.Bounds.{Weight, weighing, weight, most, Bounded, step-bounded}
+use Rattle.model.specs.Laws.Times.{timings, totalOf}
 use Rattle.model.specs.declared.Clock.{Clock}
 use Rattle.model.specs.declared.SheetRecord.{SheetRecord}
 use Rattle.model.specs.declared.Step.{Step}
 
--- what a record counts in I, A and D is what its step counts
-pub record Counts (r : SheetRecord) (x : Step) : Type 0 where
-  pub instruction : instructions x ≡ bit (eqb (r .kind) 7)
-  pub access : accesses x ≡ bit (eqb (r .kind) 1 || eqb (r .kind) 2)
-  pub idle : idles x ≡ (if eqb (r .kind) 4 then r .value else 0)
+-- what a record adds to I, A and D
+abbrev pub recordWeight : SheetRecord → Weight
+recordWeight r =
+    weighing (bit (eqb (r .kind) 7)) (bit (eqb (r .kind) 1 || eqb (r .kind) 2)) (if eqb (r .kind) 4 then r .value else 0)
 
 -- one kind at a time: the record's kind is known, so its tests compute
-kind-counts : (n : ℕ) (r : SheetRecord) (x : Step) → eqb (r .kind) n ≡ true
-    → instructions x ≡ bit (eqb n 7) → accesses x ≡ bit (eqb n 1 || eqb n 2) → idles x ≡ (if eqb n 4 then r .value else 0) → Counts r x
-kind-counts n r x e p q d =
-    let k : r .kind ≡ n = eqb-true (r .kind) n e in
-    record { instruction = rw k p; access = rw k q; idle = rw k d }
+kind-weighs : (n : ℕ) (r : SheetRecord) {w : Weight} → eqb (r .kind) n ≡ true
+    → w ≡ weighing (bit (eqb n 7)) (bit (eqb n 1 || eqb n 2)) (if eqb n 4 then r .value else 0) → w ≡ recordWeight r
+kind-weighs n r e h = let k : r .kind ≡ n = eqb-true (r .kind) n e in rw k h
 
-pub counts-step : (r : SheetRecord) → Counts r (stepOf r)
+-- its step adds the same
+pub step-weighs : (r : SheetRecord) → weight (stepOf r) ≡ recordWeight r
 unfolding stepOf
-counts-step r =
-    choose (Counts r) (eqb (r .kind) 1) (λ e. kind-counts 1 r _ e refl refl refl)
-    λ e₁. choose (Counts r) (eqb (r .kind) 2) (λ e. kind-counts 2 r _ e refl refl refl)
-    λ e₂. choose (Counts r) (eqb (r .kind) 3) (λ e. kind-counts 3 r _ e refl refl refl)
-    λ e₃. choose (Counts r) (eqb (r .kind) 4) (λ e. kind-counts 4 r _ e refl refl refl)
-    λ e₄. choose (Counts r) (eqb (r .kind) 5) (λ e. kind-counts 5 r _ e refl refl refl)
-    λ e₅. choose (Counts r) (eqb (r .kind) 6) (λ e. kind-counts 6 r _ e refl refl refl)
-    λ e₆. choose (Counts r) (eqb (r .kind) 7) (λ e. kind-counts 7 r _ e refl refl refl)
-    λ e₇. choose (Counts r) (eqb (r .kind) 8) (λ e. kind-counts 8 r _ e refl refl refl)
-    λ e₈. record { instruction = rw e₇; access = rw (e₁, e₂); idle = rw e₄ }
+step-weighs r =
+    choose W (eqb (r .kind) 1) (λ e. kind-weighs 1 r e refl)
+    λ e₁. choose W (eqb (r .kind) 2) (λ e. kind-weighs 2 r e refl)
+    λ e₂. choose W (eqb (r .kind) 3) (λ e. kind-weighs 3 r e refl)
+    λ e₃. choose W (eqb (r .kind) 4) (λ e. kind-weighs 4 r e refl)
+    λ e₄. choose W (eqb (r .kind) 5) (λ e. kind-weighs 5 r e refl)
+    λ e₅. choose W (eqb (r .kind) 6) (λ e. kind-weighs 6 r e refl)
+    λ e₆. choose W (eqb (r .kind) 7) (λ e. kind-weighs 7 r e refl)
+    λ e₇. choose W (eqb (r .kind) 8) (λ e. kind-weighs 8 r e refl)
+    λ e₈. rw (e₁, e₂, e₄, e₇)
+  where
+    W : Step → Type 0
+    W x = weight x ≡ recordWeight r
+
+-- what a step of a record costs at least and at most
+pub record-bounded : (c : Clock) (r : SheetRecord) → Bounded (recordWeight r) (timed c (stepOf r))
+record-bounded c r = rw (step-weighs r) at (step-bounded c (stepOf r))
 
 pub timings-limits : (c : Clock) (rs : List SheetRecord) → Limits rs (totalOf (timings c (map stepOf rs)))
 unfolding timings
 timings-limits c [] = omega arith
 timings-limits c (r ∷ rs) =
-    let k : Counts r (stepOf r) = counts-step r in
-    let b : Between _ _ (cycles c (stepOf r)) = step-between c (stepOf r) in
+    let b : Bounded (recordWeight r) (timed c (stepOf r)) = record-bounded c r in
     let l : Limits rs (totalOf (timings (clockAfter c (stepOf r)) (map stepOf rs))) = timings-limits (clockAfter c (stepOf r)) rs in
     omega arith
 
--- the values of a sheet of bytes fit 32 bits
-idle-small : (s : List ℕ) (k : ℕ) → AllBytes s → idles (stepOf (recordAt s k)) ≤ 0xFFFF_FFFF
-unfolding recordAt
-idle-small s k h =
-    let r : SheetRecord = recordAt s k in
-    let c : Counts r (stepOf r) = counts-step r in
-    rw (c .idle) (either (λ (n : ℕ). n ≤ 0xFFFF_FFFF) (eqb (r .kind) 4) (omega (arith, number-below 4 (8 + 12 * k + 8) s h)) (omega arith))
-
-pub idles-small : (s : List ℕ) (k n : ℕ) → AllBytes s → All (λ (x : Step). idles x ≤ 0xFFFF_FFFF) (map stepOf (recordsFrom s k n))
-unfolding recordsFrom
-idles-small s k zero h = tt
-idles-small s k (suc n) h = (idle-small s k h, idles-small s (k + 1) n h)
+-- a record whose value has 32 bits costs no more than they hold
+pub cycles-fit : (c : Clock) (r : SheetRecord) → r .value ≤ 0xFFFF_FFFF → (timed c (stepOf r)) .cycles ≤ 0xFFFF_FFFF
+cycles-fit c r h =
+    let b : Bounded (recordWeight r) (timed c (stepOf r)) = record-bounded c r in
+    let m : most (recordWeight r) ≤ 0xFFFF_FFFF =
+    by-test (eqb (r .kind) 4)
+    (λ e.
+    let k : r .kind ≡ 4 = eqb-true (r .kind) 4 e in
+    rw k (omega arith))
+    (λ e. rw e (omega (arith, bit≤1 (eqb (r .kind) 7), bit≤1 (eqb (r .kind) 1 || eqb (r .kind) 2)))) in
+    omega arith
 
 pub records-length : (s : List ℕ) (k n : ℕ) → length (recordsFrom s k n) ≡ n
 unfolding recordsFrom

@@ -1,17 +1,23 @@
--- Places and sizes: every place that an address has in a memory lies within its physical size, and a store whose lengths fit has at
--- most the bytes of the seven memories.
+-- Places and sizes: every place that an address has in a memory lies within its physical size, a memory that it meets lies in the store,
+-- and a store whose lengths fit has at most the bytes of the seven memories.
 use mathlib.Core.Path.{_≡_}
 use mathlib.Core.Bool.{Bool, not, _&&_, true}
-use Prim.Native.Nat.{ℕ, _%_, _≤_, _<_}
+use Prim.Native.Nat.{ℕ, _+_, _%_, _≤_, _<_}
 use native.Mathlib.Omega.{arith}
 use lib.Dec.{eqb, ltb, leb}
 use borrow.Author.Tests.{eqb-true, ltb-true, leb-true}
-use Rattle.model.specs.Region.{page, biosSize, ewramSize, iwramSize, ioSize, paletteSize, vramSize, oamSize, romSize, sramSize}
+use Rattle.model.specs.Region.{page, decode, biosSize, ewramSize, iwramSize, ioSize, paletteSize, vramSize, oamSize, romSize, sramSize}
 use Rattle.model.specs.Mirror.{ewramOffset, iwramOffset, paletteOffset, oamOffset, vramOffset, romOffset, sramOffset, ioOffset, biosOffset}
-use Rattle.model.specs.Load.{lengthsSum}
+use Rattle.model.specs.Memory.{ioPart, lengthsSum, ioTarget, targetIn, target}
 use Rattle.model.specs.Outcome.{sizesFit}
 use Rattle.model.specs.Laws.Choice.{choose, parts}
+use Rattle.model.specs.declared.Region.{Region}
+use Rattle.model.specs.declared.Region.the-variants.{Bios, UnusedLow, Ewram, Iwram, Io, Palette, Vram, Oam}
+use Rattle.model.specs.declared.Region.the-variants.{GamePakRomWs0, GamePakRomWs1, GamePakRomWs2, GamePakSram, UnusedHigh}
 use Rattle.model.specs.declared.Lengths.{Lengths}
+use Rattle.model.specs.declared.Part.{Part}
+use Rattle.model.specs.declared.Target.{Target}
+use Rattle.model.specs.declared.Target.the-variants.{Unused, SystemRom, GamePakRom, Plain, Video, Sram}
 use Rattle.model.specs.declared.Offset.{Offset}
 use Rattle.model.specs.declared.Offset.the-variants.{At, Unbacked}
 
@@ -63,6 +69,45 @@ within a =
       rom = omega arith;
       sram = omega arith;
     }
+
+-- ---- the place that an address meets
+
+-- a place in a part of a store of n bytes
+pub record InPart (n : ℕ) (p : Part) (i : ℕ) : Type 0 where
+  pub end : p .base + p .size ≤ n
+  pub small : i < ewramSize
+
+-- it is one, where a memory of the store is met
+abbrev pub Lies : ℕ → Target → Type 0
+Lies n Unused = Unit {0}
+Lies n SystemRom = Unit {0}
+Lies n GamePakRom = Unit {0}
+Lies n (Plain p i) = InPart n p i
+Lies n (Video m p i) = InPart n p i
+Lies n (Sram p i) = InPart n p i
+
+io-lies : (l : Lengths) (x : Offset) → Below ioSize x → Lies (lengthsSum l) (ioTarget (ioPart l) x)
+io-lies l (At i) h = record { end = omega arith; small = omega arith }
+io-lies l Unbacked h = tt
+
+lies-in : (l : Lengths) (a : ℕ) (r : Region) → Lies (lengthsSum l) (targetIn l a r)
+lies-in l a Bios = tt
+lies-in l a UnusedLow = tt
+lies-in l a Ewram = record { end = omega arith; small = omega arith }
+lies-in l a Iwram = record { end = omega arith; small = omega arith }
+lies-in l a Io = io-lies l (ioOffset a) (io-within a)
+lies-in l a Palette = record { end = omega arith; small = omega arith }
+lies-in l a Vram = record { end = omega arith; small = omega (arith, vram-within a) }
+lies-in l a Oam = record { end = omega arith; small = omega arith }
+lies-in l a GamePakRomWs0 = tt
+lies-in l a GamePakRomWs1 = tt
+lies-in l a GamePakRomWs2 = tt
+lies-in l a GamePakSram = record { end = omega arith; small = omega arith }
+lies-in l a UnusedHigh = tt
+
+pub target-lies : (l : Lengths) (a : ℕ) → Lies (lengthsSum l) (target l a)
+unfolding target
+target-lies l a = lies-in l a (decode a)
 
 -- ---- lengths
 

@@ -1,114 +1,25 @@
--- Number 0 exactly when no refusal's condition holds; a refused outcome has total 0 and leaves board, store and answers as lent.
-use mathlib.Core.Path.{_≡_, refl, ap, _∙_}
+-- Document 01's table of what a run gives back, as theorems: each number exactly when its row's condition holds and no earlier one does;
+-- the index; and what a refusal leaves.
+use mathlib.Core.Path.{_≡_, refl, sym, ap, _∙_}
 use mathlib.Core.Bool.{Bool, true, false, not, _||_}
 use mathlib.Core.Logic.{_≢_}
 use mathlib.Core.List.{List, [], _∷_}
-use Prim.Native.Nat.{ℕ, zero, suc, _*_, _≤_, _<_, min}
+use Prim.Native.Nat.{ℕ, zero, suc, _+_, _*_, _≤_, _<_, min}
 use native.Mathlib.Omega.{arith}
 use lib.ListN.{length, getD}
-use lib.Dec.{eqb, ltb}
-use borrow.Author.Tests.{not-false, le-ltb, ltb-false}
-use Rattle.model.specs.Sheet.{isMarked, versionOf, isShaped, recordCount, firstOf}
-use Rattle.model.specs.BoardBytes.{sound}
-use Rattle.model.specs.Outcome.{Lent, Outcome, lengthsFit, faultIndex, verdict, outcomeBy, outcome}
-use Rattle.model.specs.Laws.Choice.{choose, if-false, by-test}
+use lib.Dec.{eqb, ltb, lit<}
+use borrow.Author.Tests.{not-true, not-false, le-ltb, ltb-true, ltb-false}
+use Rattle.model.specs.Sheet.{sheetVersion, isMarked, versionOf, isShaped, recordCount, recordAt, recordsFrom, recordsOf, faulty, firstOf}
+use Rattle.model.specs.BoardBytes.{answerLength, sound}
+use Rattle.model.specs.Outcome.{Lent, Outcome, sizesFit, faultIndex, rows, verdict, verdictNumber, refusalIndex, outcomeBy, outcome}
+use Rattle.model.specs.Laws.Choice.{choose, by-test}
+use Rattle.model.specs.Laws.Limits.{records-length}
+use Rattle.model.specs.Laws.Rows.{Exactly, Decides, NoneHolds, Rising, decided, undecided, decides-refusal, none-accepts, zero-accepted}
 use Rattle.model.specs.declared.Refusal.{Refusal}
 use Rattle.model.specs.declared.Refusal.the-variants.{BadMark, BadVersion, BadShape, BadLengths, UnsoundBoard, ShortAnswers, FaultyRecord}
 use Rattle.model.specs.declared.SheetRecord.{SheetRecord}
 use Rattle.model.specs.declared.Verdict.{Verdict}
 use Rattle.model.specs.declared.Verdict.the-variants.{Accepted, Refused}
-
--- no condition of the table holds
-pub record Acceptable (i : Lent) : Type 0 where
-  pub marked : isMarked (i .sheet) ≡ true
-  pub version : eqb (versionOf (i .sheet)) 1 ≡ true
-  pub shaped : isShaped (i .sheet) ≡ true
-  pub lengths : lengthsFit i ≡ true
-  pub board : sound (i .board) ≡ true
-  pub answers : 12 * recordCount (i .sheet) ≤ length (i .answers)
-  pub records : recordCount (i .sheet) ≤ faultIndex i
-
--- ---- accepted, exactly then
-
-pub accepted-acceptable : (i : Lent) → verdict i ≡ Accepted → Acceptable i
-unfolding verdict
-accepted-acceptable i =
-    choose P (not (isMarked (i .sheet))) (λ e h. no BadMark h)
-    λ e₁. choose P (not (eqb (versionOf (i .sheet)) 1)) (λ e h. no BadVersion h)
-    λ e₂. choose P (not (isShaped (i .sheet))) (λ e h. no BadShape h)
-    λ e₃. choose P (not (lengthsFit i)) (λ e h. no BadLengths h)
-    λ e₄. choose P (not (sound (i .board))) (λ e h. no UnsoundBoard h)
-    λ e₅. choose P (ltb (length (i .answers)) (12 * recordCount (i .sheet))) (λ e h. no ShortAnswers h)
-    λ e₆. choose P (ltb (faultIndex i) (recordCount (i .sheet))) (λ e h. no (FaultyRecord (faultIndex i)) h)
-    λ e₇ h.
-    record {
-      marked = not-false _ e₁;
-      version = not-false _ e₂;
-      shaped = not-false _ e₃;
-      lengths = not-false _ e₄;
-      board = not-false _ e₅;
-      answers = ltb-false _ _ e₆;
-      records = ltb-false _ _ e₇;
-    }
-  where
-    P : Verdict → Type 0
-    P v = v ≡ Accepted → Acceptable i
-
-    no : (r : Refusal) → Refused r ≡ Accepted → Acceptable i
-    no r h = let z : _≡_ {A = ℕ} 0 1 = cc in absurd (omega arith)
-
-pub acceptable-accepted : (i : Lent) → Acceptable i → verdict i ≡ Accepted
-unfolding verdict
-acceptable-accepted i a =
-    if-false _ _ _ (ap not (a .marked))
-    ∙ if-false _ _ _ (ap not (a .version))
-    ∙ if-false _ _ _ (ap not (a .shaped))
-    ∙ if-false _ _ _ (ap not (a .lengths))
-    ∙ if-false _ _ _ (ap not (a .board))
-    ∙ if-false _ _ _ (le-ltb _ _ (a .answers))
-    ∙ if-false _ _ _ (le-ltb _ _ (a .records))
-
--- ---- the number, and what a refusal leaves
-
-by-number : (i : Lent) (v : Verdict) → (outcomeBy i v) .number ≡ 0 → v ≡ Accepted
-by-number i Accepted h = refl
-by-number i (Refused BadMark) h = absurd (omega arith)
-by-number i (Refused BadVersion) h = absurd (omega arith)
-by-number i (Refused BadShape) h = absurd (omega arith)
-by-number i (Refused BadLengths) h = absurd (omega arith)
-by-number i (Refused UnsoundBoard) h = absurd (omega arith)
-by-number i (Refused ShortAnswers) h = absurd (omega arith)
-by-number i (Refused (FaultyRecord k)) h = absurd (omega arith)
-
-pub number-zero : (i : Lent) → (outcome i) .number ≡ 0 → verdict i ≡ Accepted
-unfolding outcome
-number-zero i h = by-number i (verdict i) h
-
-pub zero-exactly : (i : Lent) → ((outcome i) .number ≡ 0 → Acceptable i) × (Acceptable i → (outcome i) .number ≡ 0)
-unfolding outcome
-zero-exactly i = (
-  λ h. accepted-acceptable i (number-zero i h),
-  λ a. ap (λ (v : Verdict). (outcomeBy i v) .number) (acceptable-accepted i a),
-)
-
-pub was-accepted : (i : Lent) → (outcome i) .number ≡ 0 → outcome i ≡ outcomeBy i Accepted
-unfolding outcome
-was-accepted i h = ap (outcomeBy i) (number-zero i h)
-
--- all is as lent
-pub record Untouched (i : Lent) (o : Outcome) : Type 0 where
-  pub total : o .total ≡ 0
-  pub board : o .board ≡ i .board
-  pub store : o .store ≡ i .store
-  pub answers : o .answers ≡ i .answers
-
-by-refusal : (i : Lent) (v : Verdict) → (outcomeBy i v) .number ≢ 0 → Untouched i (outcomeBy i v)
-by-refusal i Accepted h = absurd (h refl)
-by-refusal i (Refused r) h = record { total = refl; board = refl; store = refl; answers = refl }
-
-pub refused-untouched : (i : Lent) → (outcome i) .number ≢ 0 → Untouched i (outcome i)
-unfolding outcome
-refused-untouched i h = by-refusal i (verdict i) h
 
 -- ---- the least faulty record
 
@@ -139,3 +50,194 @@ first-either f g [] = omega arith
 first-either f g (r ∷ rs) =
     by-test (f r) (λ e. simp e (omega arith))
     (λ e. by-test (g r) (λ d. simp (e, d) (omega arith)) (λ d. simp (e, d) (omega (arith, first-either f g rs))))
+
+-- ---- the records of a sheet
+
+pub record-in : (s : List ℕ) (k n j : ℕ) (d : SheetRecord) → j < n → getD (recordsFrom s k n) j d ≡ recordAt s (k + j)
+unfolding recordsFrom
+record-in s k zero j d h = absurd (omega arith)
+record-in s k (suc n) zero d h = ap (recordAt s) (omega arith)
+record-in s k (suc n) (suc j) d h = record-in s (k + 1) n j d (omega arith) ∙ ap (recordAt s) (omega arith)
+
+-- record k is faulty and none before it is
+pub record FirstFault (s : List ℕ) (k : ℕ) : Type 0 where
+  pub within : k < recordCount s
+  pub there : faulty (recordAt s k) ≡ true
+  pub before : (j : ℕ) → j < k → faulty (recordAt s j) ≡ false
+
+abbrev pub NoFault : List ℕ → Type 0
+NoFault s = (k : ℕ) → k < recordCount s → faulty (recordAt s k) ≡ false
+
+module _ (s : List ℕ) where
+  -- a record of the list, by its number
+  listed : (k : ℕ) → k < recordCount s → getD (recordsOf s) k (recordAt s 0) ≡ recordAt s k
+  listed k h = record-in s 0 (recordCount s) k (recordAt s 0) h ∙ ap (recordAt s) (omega arith)
+
+  fine : (k : ℕ) → k < recordCount s → k < faultIndex s → faulty (recordAt s k) ≡ false
+  fine k h l = ap faulty (sym (listed k h)) ∙ fine-before faulty (recordsOf s) (recordAt s 0) k l
+
+  pub first-fault : faultIndex s < recordCount s → FirstFault s (faultIndex s)
+  first-fault h =
+      record {
+        within = h;
+        there =
+            ap faulty (sym (listed (faultIndex s) h))
+            ∙ found-there faulty (recordsOf s) (recordAt s 0) (omega (arith, records-length s 0 (recordCount s)));
+        before = λ j l. fine j (omega arith) l;
+      }
+
+  pub no-fault : recordCount s ≤ faultIndex s → NoFault s
+  no-fault h k l = fine k l (omega arith)
+
+  pub fault-none : NoFault s → recordCount s ≤ faultIndex s
+  fault-none f =
+      by-test (ltb (faultIndex s) (recordCount s))
+      (λ e.
+      let h : faultIndex s < recordCount s = ltb-true _ _ e in
+      let z = sym ((first-fault h) .there) ∙ f (faultIndex s) h in
+      let y : _≡_ {A = ℕ} 0 1 = cc in absurd (omega arith))
+      (λ e. ltb-false _ _ e)
+
+-- ---- the rows
+
+rising : (i : Lent) → Rising 0 (rows i)
+rising i = (lit< tt, (lit< tt, (lit< tt, (lit< tt, (lit< tt, (lit< tt, (lit< tt, tt)))))))
+
+by-number : (i : Lent) (v : Verdict) → (outcomeBy i v) .number ≡ verdictNumber v
+by-number i Accepted = refl
+by-number i (Refused r) = refl
+
+number-is : (i : Lent) → (outcome i) .number ≡ verdictNumber (verdict i)
+unfolding outcome
+number-is i = by-number i (verdict i)
+
+exactly-row : (i : Lent) (k n : ℕ) → k < 7 → Exactly (verdictNumber (verdict i) ≡ n) (Decides (rows i) k)
+    → Exactly ((outcome i) .number ≡ n) (Decides (rows i) k)
+exactly-row i k n h e = (λ x. e .0 (sym (number-is i) ∙ x), λ d. number-is i ∙ e .1 d)
+
+-- number r exactly when the condition of row r holds and no earlier one does; 0 exactly when none does
+pub record Table (i : Lent) (o : Outcome) : Type 0 where
+  pub mark : Exactly (o .number ≡ 1) (Decides (rows i) 0)
+  pub version : Exactly (o .number ≡ 2) (Decides (rows i) 1)
+  pub shape : Exactly (o .number ≡ 3) (Decides (rows i) 2)
+  pub lengths : Exactly (o .number ≡ 4) (Decides (rows i) 3)
+  pub board : Exactly (o .number ≡ 5) (Decides (rows i) 4)
+  pub answers : Exactly (o .number ≡ 6) (Decides (rows i) 5)
+  pub records : Exactly (o .number ≡ 7) (Decides (rows i) 6)
+  pub none : Exactly (o .number ≡ 0) (NoneHolds (rows i))
+
+pub table : (i : Lent) → Table i (outcome i)
+unfolding verdict
+table i =
+    record {
+      mark = exactly-row i 0 1 (lit< tt) (decided 0 (rows i) (rising i) 0 (lit< tt));
+      version = exactly-row i 1 2 (lit< tt) (decided 0 (rows i) (rising i) 1 (lit< tt));
+      shape = exactly-row i 2 3 (lit< tt) (decided 0 (rows i) (rising i) 2 (lit< tt));
+      lengths = exactly-row i 3 4 (lit< tt) (decided 0 (rows i) (rising i) 3 (lit< tt));
+      board = exactly-row i 4 5 (lit< tt) (decided 0 (rows i) (rising i) 4 (lit< tt));
+      answers = exactly-row i 5 6 (lit< tt) (decided 0 (rows i) (rising i) 5 (lit< tt));
+      records = exactly-row i 6 7 (lit< tt) (decided 0 (rows i) (rising i) 6 (lit< tt));
+      none = (λ x. (undecided (rows i)) .0 (sym (number-is i) ∙ x), λ d. number-is i ∙ (undecided (rows i)) .1 d);
+    }
+
+-- ---- the index
+
+-- 0 for 1 to 6, the first faulty record for 7, the number of records for 0
+pub record Index (i : Lent) (o : Outcome) : Type 0 where
+  pub refused : o .number ≢ 0 → o .number ≢ 7 → o .index ≡ 0
+  pub faulty-record : o .number ≡ 7 → FirstFault (i .sheet) (o .index)
+  pub accepted : o .number ≡ 0 → o .index ≡ recordCount (i .sheet)
+
+zero-index : (i : Lent) (v : Verdict) → (outcomeBy i v) .number ≢ 0 → (outcomeBy i v) .number ≢ 7 → (outcomeBy i v) .index ≡ 0
+zero-index i Accepted h k = absurd (h refl)
+zero-index i (Refused BadMark) h k = refl
+zero-index i (Refused BadVersion) h k = refl
+zero-index i (Refused BadShape) h k = refl
+zero-index i (Refused BadLengths) h k = refl
+zero-index i (Refused UnsoundBoard) h k = refl
+zero-index i (Refused ShortAnswers) h k = refl
+zero-index i (Refused (FaultyRecord n)) h k = absurd (k refl)
+
+pub number-zero : (i : Lent) → (outcome i) .number ≡ 0 → verdict i ≡ Accepted
+number-zero i h = zero-accepted (verdict i) (sym (number-is i) ∙ h)
+
+pub was-accepted : (i : Lent) → (outcome i) .number ≡ 0 → outcome i ≡ outcomeBy i Accepted
+unfolding outcome
+was-accepted i h = ap (outcomeBy i) (number-zero i h)
+
+fault-index : (i : Lent) → Decides (rows i) 6 → FirstFault (i .sheet) ((outcome i) .index)
+unfolding outcome verdict
+fault-index i d =
+    rw (decides-refusal (rows i) 6 d) (first-fault (i .sheet) (ltb-true _ _ (d .1 .1 .1 .1 .1 .1)))
+
+pub index : (i : Lent) → Index i (outcome i)
+unfolding outcome
+index i =
+    record {
+      refused = zero-index i (verdict i);
+      faulty-record = λ h. fault-index i ((table i) .records .0 h);
+      accepted = λ h. ap (λ (o : Outcome). o .index) (was-accepted i h);
+    }
+
+-- ---- an accepted run
+
+-- no condition of the table holds
+pub record Acceptable (i : Lent) : Type 0 where
+  pub marked : isMarked (i .sheet) ≡ true
+  pub version : eqb (versionOf (i .sheet)) sheetVersion ≡ true
+  pub shaped : isShaped (i .sheet) ≡ true
+  pub lengths : sizesFit (i .lengths) (length (i .store)) (length (i .bios)) (length (i .rom)) ≡ true
+  pub board : sound (i .board) ≡ true
+  pub answers : answerLength * recordCount (i .sheet) ≤ length (i .answers)
+  pub records : NoFault (i .sheet)
+
+none-acceptable : (i : Lent) → NoneHolds (rows i) → Acceptable i
+none-acceptable i h =
+    record {
+      marked = not-false _ (h .0);
+      version = not-false _ (h .1 .0);
+      shaped = not-false _ (h .1 .1 .0);
+      lengths = not-false _ (h .1 .1 .1 .0);
+      board = not-false _ (h .1 .1 .1 .1 .0);
+      answers = ltb-false _ _ (h .1 .1 .1 .1 .1 .0);
+      records = no-fault (i .sheet) (ltb-false _ _ (h .1 .1 .1 .1 .1 .1 .0));
+    }
+
+acceptable-none : (i : Lent) → Acceptable i → NoneHolds (rows i)
+acceptable-none i a = (
+  ap not (a .marked),
+  (
+    ap not (a .version),
+    (
+      ap not (a .shaped),
+      (
+        ap not (a .lengths),
+        (ap not (a .board), (le-ltb _ _ (a .answers), (le-ltb _ _ (fault-none (i .sheet) (a .records)), tt))),
+      ),
+    ),
+  ),
+)
+
+pub accepted-acceptable : (i : Lent) → verdict i ≡ Accepted → Acceptable i
+unfolding verdict
+accepted-acceptable i e = none-acceptable i ((undecided (rows i)) .0 (ap verdictNumber e))
+
+pub zero-exactly : (i : Lent) → Exactly ((outcome i) .number ≡ 0) (Acceptable i)
+zero-exactly i = (λ h. none-acceptable i ((table i) .none .0 h), λ a. (table i) .none .1 (acceptable-none i a))
+
+-- ---- a refused run
+
+-- all is as lent
+pub record Untouched (i : Lent) (o : Outcome) : Type 0 where
+  pub total : o .total ≡ 0
+  pub board : o .board ≡ i .board
+  pub store : o .store ≡ i .store
+  pub answers : o .answers ≡ i .answers
+
+by-refusal : (i : Lent) (v : Verdict) → (outcomeBy i v) .number ≢ 0 → Untouched i (outcomeBy i v)
+by-refusal i Accepted h = absurd (h refl)
+by-refusal i (Refused r) h = record { total = refl; board = refl; store = refl; answers = refl }
+
+pub refused-untouched : (i : Lent) → (outcome i) .number ≢ 0 → Untouched i (outcome i)
+unfolding outcome
+refused-untouched i h = by-refusal i (verdict i) h

@@ -12,7 +12,7 @@ use Rattle.model.specs.Waitcnt.{Waits, written}
 use Rattle.model.specs.Wait.{window, inWindow, kindAt, romHalfCycles}
 use Rattle.model.specs.Prefetch.{capacity, drained, restartIn, restart, startBeat, arrived, ended, ready, tick1, ticks, occupied, hit, fetched}
 use Rattle.model.specs.Timing.{internal, disableBug, priceInsn}
-use Rattle.model.specs.Step.{setWaitcnt, clockAfter}
+use Rattle.model.specs.Step.{setWaitcnt, codeClock, clockAfter}
 use Rattle.model.specs.Laws.Choice.{choose, either, if-true, if-false, parts, eqb-ne}
 use Rattle.model.specs.declared.PrefetchBuffer.{PrefetchBuffer}
 use Rattle.model.specs.declared.Clock.{Clock}
@@ -20,6 +20,7 @@ use Rattle.model.specs.declared.RomWindow.{RomWindow}
 use Rattle.model.specs.declared.Windowed.{Windowed}
 use Rattle.model.specs.declared.Windowed.the-variants.{In, Outside}
 use Rattle.model.specs.declared.AccessKind.the-variants.{Nonseq}
+use Rattle.model.specs.declared.IsaState.{IsaState}
 use Rattle.model.specs.declared.Step.{Step}
 use Rattle.model.specs.declared.Step.the-variants.{Read, Write, Waitcnt, Idle, Fetch, Restart, Instruction, Pc, Latch}
 
@@ -162,26 +163,25 @@ full-stays t n p f h =
 
 -- ---- the force flag
 
-abbrev pub forceAfter : Clock → Step → Bool
-forceAfter c (Read z a) = c .«force_next_fetch_n»
-forceAfter c (Write z a v) = c .«force_next_fetch_n»
-forceAfter c (Waitcnt v) = c .«force_next_fetch_n»
-forceAfter c (Idle n) = c .«force_next_fetch_n»
-forceAfter c (Fetch a) = c .«force_next_fetch_n»
-forceAfter c (Restart a) = c .«force_next_fetch_n»
-forceAfter c (Instruction isa a op changed) = not (c .prefetch .enabled) && inWindow a && internal isa op && not changed
-forceAfter c (Pc a) = c .«force_next_fetch_n»
-forceAfter c (Latch v) = c .«force_next_fetch_n»
+-- every INSTRUCTION sets it
+pub force-set : (c : Clock) (isa : IsaState) (a op : ℕ) (jump : Bool)
+    → (clockAfter c (Instruction isa a op jump)) .«force_next_fetch_n»
+    ≡ (not (c .prefetch .enabled) && inWindow a && internal isa op && not jump)
+unfolding codeClock priceInsn disableBug
+force-set c isa a op jump = refl
 
--- every INSTRUCTION sets it, and nothing else moves it
-pub force-rule : (c : Clock) (x : Step) → (clockAfter c x) .«force_next_fetch_n» ≡ forceAfter c x
-unfolding setWaitcnt priceInsn disableBug
-force-rule c (Read z a) = refl
-force-rule c (Write z a v) = refl
-force-rule c (Waitcnt v) = refl
-force-rule c (Idle n) = refl
-force-rule c (Fetch a) = refl
-force-rule c (Restart a) = refl
-force-rule c (Instruction isa a op changed) = refl
-force-rule c (Pc a) = refl
-force-rule c (Latch v) = refl
+-- and no other step moves it
+abbrev pub Other : Step → Type 0
+Other x = (isa : IsaState) (a op : ℕ) (jump : Bool) → x ≢ Instruction isa a op jump
+
+pub force-kept : (c : Clock) (x : Step) → Other x → (clockAfter c x) .«force_next_fetch_n» ≡ c .«force_next_fetch_n»
+unfolding setWaitcnt
+force-kept c (Read z a) o = refl
+force-kept c (Write z a v) o = refl
+force-kept c (Waitcnt v) o = refl
+force-kept c (Idle n) o = refl
+force-kept c (Fetch a) o = refl
+force-kept c (Restart a) o = refl
+force-kept c (Instruction isa a op jump) o = absurd (o isa a op jump refl)
+force-kept c (Pc a) o = refl
+force-kept c (Latch v) o = refl

@@ -1,18 +1,18 @@
 -- A run goes step by step: run over xs ++ ys is run over ys after run over xs; it has one answer a step, and keeps what every step keeps.
 use mathlib.Core.Path.{_≡_, refl, ap, _∙_}
 use mathlib.Core.List.{List, [], _∷_, _++_}
-use Prim.Native.Nat.{ℕ, zero, suc, _+_}
-use lib.ListN.{length, set, length-set}
+use Prim.Native.Nat.{ℕ, zero, suc, _+_, _<_}
+use native.Mathlib.Omega.{arith}
+use lib.ListN.{length, getD, take, set, length-set}
 use Rattle.model.specs.Waitcnt.{Waits}
 use Rattle.model.specs.Prefetch.{tick1, arrives, slot, filled}
-use Rattle.model.specs.Store.{Put, landed, puts, modeOf}
-use Rattle.model.specs.Step.{Media, State, Result, run, stepped, answer, halvesAfter, storeAfter}
+use Rattle.model.specs.Store.{Put, landed}
+use Rattle.model.specs.Step.{Media, State, Result, run, changed, stepped, answer}
 use Rattle.model.specs.Laws.Choice.{either}
 use Rattle.model.specs.Laws.Sound.{SoundClock, clockAfter-sound}
 use Rattle.model.specs.declared.PrefetchBuffer.{PrefetchBuffer}
 use Rattle.model.specs.declared.Answer.{Answer}
 use Rattle.model.specs.declared.Step.{Step}
-use Rattle.model.specs.declared.Step.the-variants.{Read, Write, Waitcnt, Idle, Fetch, Restart, Instruction, Pc, Latch}
 
 -- a result followed by what a run from its state gives
 abbrev pub continued : Result → Result → Result
@@ -24,6 +24,16 @@ unfolding run
 run-append m s [] ys = refl
 run-append m s (x ∷ xs) ys =
     ap (λ (r : Result). record { answers = answer m s x ∷ r .answers; state = r .state }) (run-append m (stepped m s x) xs ys)
+
+-- one step more
+pub run-snoc : (m : Media) (s : State) (xs : List Step) (x : Step)
+    → run m s (xs ++ x ∷ [])
+    ≡ record {
+      answers = (run m s xs) .answers ++ answer m ((run m s xs) .state) x ∷ [];
+      state = stepped m ((run m s xs) .state) x;
+    }
+unfolding run
+run-snoc m s xs x = run-append m s xs (x ∷ [])
 
 -- an answer a step
 pub run-length : (m : Media) (s : State) (xs : List Step) → length ((run m s xs) .answers) ≡ length xs
@@ -38,18 +48,13 @@ unfolding run
 run-keeps P m k s [] p = p
 run-keeps P m k s (x ∷ xs) p = run-keeps P m k (stepped m s x) xs (k s x p)
 
--- a claim about every element of a list
-abbrev pub All : {A : Type 0} → (A → Type 0) → List A → Type 0
-All P [] = Unit
-All P (x ∷ xs) = P x × All P xs
-
--- what every answer of a kept state has, every answer of a run has; S is what is known of the steps
-pub run-all : (Q : State → Type 0) (S : Step → Type 0) (P : Answer → Type 0) (m : Media)
-    → ((s : State) (x : Step) → Q s → S x → P (answer m s x)) → ((s : State) (x : Step) → Q s → Q (stepped m s x))
-    → (s : State) (xs : List Step) → Q s → All S xs → All P ((run m s xs) .answers)
+-- answer k is that of step k, in the state that the first k steps leave
+pub run-at : (m : Media) (s : State) (xs : List Step) (k : ℕ) (d : Answer) (e : Step) → k < length xs
+    → getD ((run m s xs) .answers) k d ≡ answer m ((run m s (take k xs)) .state) (getD xs k e)
 unfolding run
-run-all Q S P m f k s [] q t = tt
-run-all Q S P m f k s (x ∷ xs) q t = (f s x q (t .0), run-all Q S P m f k (stepped m s x) xs (k s x q) (t .1))
+run-at m s [] k d e h = absurd (omega arith)
+run-at m s (x ∷ xs) zero d e h = refl
+run-at m s (x ∷ xs) (suc k) d e h = run-at m (stepped m s x) xs k d e (omega arith)
 
 -- ---- the clock stays sound
 
@@ -65,31 +70,15 @@ filled-length read t (suc n) p h =
     filled-length read t n (tick1 t p) _
     ∙ either (λ (l : List ℕ). length l ≡ length h) (arrives t p) (length-set h (slot p) (read (p .«next_addr»))) refl
 
-landed-length : (s : List ℕ) (ps : List Put) → length (landed s ps) ≡ length s
+pub landed-length : (s : List ℕ) (ps : List Put) → length (landed s ps) ≡ length s
 landed-length s [] = refl
 landed-length s (p ∷ ps) = landed-length (set s (p .place) (p .byte)) ps ∙ length-set s (p .place) (p .byte)
 
-step-halves : (m : Media) (s : State) (x : Step) → length (halvesAfter m s x) ≡ length (s .board .halves)
-step-halves m s (Read z a) = refl
-step-halves m s (Write z a v) = refl
-step-halves m s (Waitcnt v) = refl
-step-halves m s (Idle n) = filled-length _ _ n (s .board .clock .prefetch) (s .board .halves)
-step-halves m s (Fetch a) = refl
-step-halves m s (Restart a) = refl
-step-halves m s (Instruction isa a op changed) = filled-length _ _ _ _ (s .board .halves)
-step-halves m s (Pc a) = refl
-step-halves m s (Latch v) = refl
+step-halves : (m : Media) (s : State) (x : Step) → length ((stepped m s x) .board .halves) ≡ length (s .board .halves)
+step-halves m s x = filled-length _ _ _ _ (s .board .halves)
 
-step-store : (m : Media) (s : State) (x : Step) → length (storeAfter m s x) ≡ length (s .store)
-step-store m s (Read z a) = refl
-step-store m s (Write z a v) = landed-length (s .store) (puts (m .lengths) (modeOf (m .lengths) (s .store)) z a v)
-step-store m s (Waitcnt v) = refl
-step-store m s (Idle n) = refl
-step-store m s (Fetch a) = refl
-step-store m s (Restart a) = refl
-step-store m s (Instruction isa a op changed) = refl
-step-store m s (Pc a) = refl
-step-store m s (Latch v) = refl
+step-store : (m : Media) (s : State) (x : Step) → length ((stepped m s x) .store) ≡ length (s .store)
+step-store m s x = landed-length (s .store) ((changed m s x) .puts)
 
 pub run-halves : (n : ℕ) (m : Media) (s : State) (xs : List Step)
     → length (s .board .halves) ≡ n → length ((run m s xs) .state .board .halves) ≡ n

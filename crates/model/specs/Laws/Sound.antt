@@ -9,7 +9,7 @@ use Rattle.model.specs.Base.{further, lowered}
 use Rattle.model.specs.Waitcnt.{Waits, written, prefetchEnable}
 use Rattle.model.specs.Wait.{window, inWindow, kindAt, nonseqIf, romHalfCycles}
 use Rattle.model.specs.Prefetch.{capacity, emptied, newBuffer, setEnabled, restartIn, restart, beatIn, startBeat, arrived, ended, advance, ready, tick1, ticks, occupied, hit, taken, fetched}
-use Rattle.model.specs.Step.{waitsOf, withPrefetch, setWaitcnt, priced, romFetched, fetchedIn, codeFetched, clockAfter, freshBoard}
+use Rattle.model.specs.Step.{waitsOf, withPrefetch, setWaitcnt, romFetched, fetchedIn, codeFetched, codeClock, Timed, timed, idled, clockAfter, freshBoard}
 use Rattle.model.specs.Laws.Choice.{choose, either, never, tests, and-true-left, and-true-right, parts}
 use Rattle.model.specs.Laws.Window.{InRom, window-in}
 use Rattle.model.specs.Laws.Bounds.{SmallWaits, romWaits-small}
@@ -278,30 +278,29 @@ setWaitcnt-sound c v k =
       buffer = setEnabled-sound (prefetchEnable (written (c .waitcnt) v)) (c .prefetch) (k .buffer);
     }
 
--- every step leaves a sound clock
-pub clockAfter-sound : (c : Clock) (x : Step) → SoundClock c → SoundClock (clockAfter c x)
-clockAfter-sound c (Read z a) k = k
-clockAfter-sound c (Write z a v) k = k
-clockAfter-sound c (Waitcnt v) k = setWaitcnt-sound c v k
-clockAfter-sound c (Idle n) k =
-    withPrefetch-sound c _ k (ticks-switch (waitsOf c) n (c .prefetch)) (ticks-sound (waitsOf c) (romWaits-small (c .waitcnt)) n (c .prefetch) (k .buffer))
-clockAfter-sound c (Fetch a) k = withPrefetch-sound c _ k (fetched-switch (c .prefetch) a) (fetched-sound (c .prefetch) a (k .buffer))
-clockAfter-sound c (Restart a) k =
+-- up to its idle cycles every step leaves a sound clock
+pub timed-sound : (c : Clock) (x : Step) → SoundClock c → SoundClock ((timed c x) .clock)
+unfolding codeClock
+timed-sound c (Read z a) k = k
+timed-sound c (Write z a v) k = k
+timed-sound c (Waitcnt v) k = setWaitcnt-sound c v k
+timed-sound c (Idle n) k = k
+timed-sound c (Fetch a) k = withPrefetch-sound c _ k (fetched-switch (c .prefetch) a) (fetched-sound (c .prefetch) a (k .buffer))
+timed-sound c (Restart a) k =
     withPrefetch-sound c _ k (restart-switch (waitsOf c) (c .prefetch) a) (restart-sound (waitsOf c) (romWaits-small (c .waitcnt)) (c .prefetch) a)
-clockAfter-sound c (Instruction isa a op changed) k =
-    record {
-      size = k .size;
-      bit13 = k .bit13;
-      switch =
-          ticks-switch (waitsOf c) ((priced c isa a op changed) .«cart_idle») (codeFetched c isa a)
-          ∙ codeFetched-switch c isa a
-          ∙ k .switch;
-      buffer =
-          ticks-sound (waitsOf c) (romWaits-small (c .waitcnt)) ((priced c isa a op changed) .«cart_idle») (codeFetched c isa a)
-          (codeFetched-sound c isa a k);
-    }
-clockAfter-sound c (Pc a) k = k
-clockAfter-sound c (Latch v) k = k
+timed-sound c (Instruction isa a op jump) k =
+    record { size = k .size; bit13 = k .bit13; switch = codeFetched-switch c isa a ∙ k .switch; buffer = codeFetched-sound c isa a k }
+timed-sound c (Pc a) k = k
+timed-sound c (Latch v) k = k
+
+-- and so do the idle cycles
+pub idled-sound : (t : Timed) → SoundClock (t .clock) → SoundClock (idled t)
+idled-sound t k =
+    withPrefetch-sound (t .clock) _ k (ticks-switch (waitsOf (t .clock)) (t .idle) (t .clock .prefetch))
+    (ticks-sound (waitsOf (t .clock)) (romWaits-small (t .clock .waitcnt)) (t .idle) (t .clock .prefetch) (k .buffer))
+
+pub clockAfter-sound : (c : Clock) (x : Step) → SoundClock c → SoundClock (clockAfter c x)
+clockAfter-sound c x k = idled-sound (timed c x) (timed-sound c x k)
 
 pub fresh-sound : SoundClock (freshBoard .clock)
 unfolding prefetchEnable

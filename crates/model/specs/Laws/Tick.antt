@@ -7,9 +7,11 @@ use lib.ListN.{set}
 use Rattle.model.specs.Base.{if_then_else_}
 use Rattle.model.specs.Waitcnt.{Waits}
 use Rattle.model.specs.Prefetch.{ticks, tick1, filled, arrives, slot}
-use Rattle.model.specs.Step.{Media, State, stepped}
+use Rattle.model.specs.Step.{Media, State, waitsOf, setWaitcnt, codeClock, Timed, timed, stepped}
 use Rattle.model.specs.declared.PrefetchBuffer.{PrefetchBuffer}
-use Rattle.model.specs.declared.Step.the-variants.{Idle}
+use Rattle.model.specs.declared.Clock.{Clock}
+use Rattle.model.specs.declared.Step.{Step}
+use Rattle.model.specs.declared.Step.the-variants.{Read, Write, Waitcnt, Idle, Fetch, Restart, Instruction, Pc, Latch}
 
 pub ticks-add : (t : Waits) (a b : ℕ) (p : PrefetchBuffer) → ticks t (a + b) p ≡ ticks t b (ticks t a p)
 unfolding ticks
@@ -29,3 +31,22 @@ idle-zero m s = refl
 
 pub idle-add : (m : Media) (s : State) (i j : ℕ) → stepped m (stepped m s (Idle i)) (Idle j) ≡ stepped m s (Idle (i + j))
 idle-add m s i j = rw (ticks-add, filled-add)
+
+-- ---- a step that ticks leaves WAITCNT alone, so that its idle cycles may take the waits from before it
+
+pub record SameWaits (c : Clock) (t : Timed) : Type 0 where
+  pub buffer : ticks (waitsOf c) (t .idle) (t .clock .prefetch) ≡ ticks (waitsOf (t .clock)) (t .idle) (t .clock .prefetch)
+  pub halves : (read : ℕ → ℕ) (h : List ℕ)
+      → filled read (waitsOf c) (t .idle) (t .clock .prefetch) h ≡ filled read (waitsOf (t .clock)) (t .idle) (t .clock .prefetch) h
+
+pub same-waits : (c : Clock) (x : Step) → SameWaits c (timed c x)
+unfolding ticks filled setWaitcnt codeClock
+same-waits c (Read z a) = record { buffer = refl; halves = λ read h. refl }
+same-waits c (Write z a v) = record { buffer = refl; halves = λ read h. refl }
+same-waits c (Waitcnt v) = record { buffer = refl; halves = λ read h. refl }
+same-waits c (Idle n) = record { buffer = refl; halves = λ read h. refl }
+same-waits c (Fetch a) = record { buffer = refl; halves = λ read h. refl }
+same-waits c (Restart a) = record { buffer = refl; halves = λ read h. refl }
+same-waits c (Instruction isa a op jump) = record { buffer = refl; halves = λ read h. refl }
+same-waits c (Pc a) = record { buffer = refl; halves = λ read h. refl }
+same-waits c (Latch v) = record { buffer = refl; halves = λ read h. refl }

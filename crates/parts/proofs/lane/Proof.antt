@@ -6,18 +6,6 @@ use borrow.Author.Needs.{needs}
 use Rattle.parts.proofs.lane.Statement.{statement}
 use Rattle.parts.proofs.lane.Tie as tie
 
-cast-result : tie.Need-cast-result
-cast-result c = search needs
-
-cast-result-2 : tie.Need-cast-result-2
-cast-result-2 c = search needs
-
-cast-result-3 : tie.Need-cast-result-3
-cast-result-3 c = search needs
-
-cast-result-4 : tie.Need-cast-result-4
-cast-result-4 c = search needs
-
 returns : tie.Need-returns
 returns c = simp (c .match .keys1, div-one)
 
@@ -36,10 +24,10 @@ pub lane-spec : {M : Type 1} → statement M
 lane-spec =
     tie.close
     (tie.spec
-    cast-result
-    cast-result-2
-    cast-result-3
-    cast-result-4
+    (λ c. search needs)
+    (λ c. search needs)
+    (λ c. search needs)
+    (λ c. search needs)
     returns
     returns-2
     returns-3

@@ -5,17 +5,12 @@ use borrow.Author.Needs.{needs}
 use Rattle.parts.proofs.write_slice.Statement.{statement}
 use Rattle.parts.proofs.write_slice.Tie as tie
 
-slice-write-buf : tie.Need-slice-write-buf
-slice-write-buf c = search needs
-
-same-length : tie.Need-same-length
-same-length c = search needs
-
-returns : tie.Need-returns
-returns c = search needs
-
 returns-2 : tie.Need-returns-2
 returns-2 c = sym (set-out _ _ _ (c .if1 .left))
 
 pub write-slice-spec : {M : Type 1} → statement M
-write-slice-spec = tie.close (tie.spec slice-write-buf same-length returns returns-2)
+write-slice-spec = tie.close (tie.spec
+    (λ c. search needs)
+    (λ c. search needs)
+    (λ c. search needs)
+    returns-2)

@@ -1,52 +1,42 @@
 -- `prefetch::after_fetch` meets its contract: each return decides the definition's tests. Assumes nothing.
-use mathlib.Core.Path.{sym, _∙_}
+use mathlib.Core.Path.{_≡_, _∙_}
+use mathlib.Core.Bool.{true, false}
+use Prim.Native.Nat.{ℕ}
 use native.Mathlib.Omega.{arith}
-use borrow.Author.Needs.{needs}
-use Rattle.model.specs.Prefetch.{fetched}
+use Rattle.model.specs.Prefetch.{drained, hit, occupied, taken, fetched}
 use Rattle.model.specs.Laws.Rules.{hit-exactly}
+use Rattle.model.specs.declared.PrefetchBuffer.{PrefetchBuffer}
+use borrow.Author.Needs.{needs}
 use Rattle.prefetch.proofs.after_fetch.Statement.{statement}
 use Rattle.prefetch.proofs.after_fetch.Tie as tie
 
-hits-requires : tie.Need-hits-requires
-hits-requires c κs = search needs
+-- the definition by its two tests
+module _ (p : PrefetchBuffer) (a : ℕ) where
+  takes : hit p a ≡ true → taken p ≡ fetched p a
+  unfolding fetched
+  takes h = simp h
+
+  drains : hit p a ≡ false → occupied p ≡ true → drained p ≡ fetched p a
+  unfolding fetched
+  drains h o = simp (h, o)
+
+  keeps : hit p a ≡ false → occupied p ≡ false → p ≡ fetched p a
+  unfolding fetched
+  keeps h o = simp (h, o)
 
 take-requires : tie.Need-take-requires
 take-requires c κs =
-    let a = c .before .before .args in
-    let h = (hit-exactly (a .p) (a .addr)) .0 (sym (c .before .hits .ensures) ∙ c .if1 .taken) in
-    (c .before .before .pre, omega (arith, h .some))
-
-returns : tie.Need-returns
-unfolding fetched
-returns c = c .take .ensures ∙ simp (sym (c .before .before .hits .ensures) ∙ c .before .if1 .taken)
-
-drain-requires : tie.Need-drain-requires
-drain-requires c κs = search needs
-
-occupied-requires : tie.Need-occupied-requires
-occupied-requires c κs = search needs
-
-returns-2 : tie.Need-returns-2
-unfolding fetched
-returns-2 c =
-    let d = c .before .before .before in
-    c .before .before .drain .ensures
-    ∙ simp (sym (d .before .hits .ensures) ∙ d .if1 .left, sym (c .before .occupied .ensures) ∙ c .if2 .taken)
-
-returns-3 : tie.Need-returns-3
-unfolding fetched
-returns-3 c =
-    let d = c .before .before .before in
-    simp (sym (d .before .hits .ensures) ∙ d .if1 .left, sym (c .before .occupied .ensures) ∙ c .if2 .left)
+    let d = c .before .before in
+    (d .pre, omega (arith, (hit-exactly (d .args .buffer) (d .args .addr)) .0 (cc) .some))
 
 pub after-fetch-spec : {M : Type 1} → statement M
 after-fetch-spec =
     tie.close
     (tie.spec
-    hits-requires
+    (λ c κs. search needs)
     take-requires
-    returns
-    drain-requires
-    occupied-requires
-    returns-2
-    returns-3)
+    (λ c. c .take .ensures ∙ takes _ _ (cc))
+    (λ c κs. search needs)
+    (λ c κs. search needs)
+    (λ c. c .before .before .drain .ensures ∙ drains _ _ (cc) (cc))
+    (λ c. keeps _ _ (cc) (cc)))

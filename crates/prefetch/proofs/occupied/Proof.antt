@@ -4,9 +4,9 @@ use Rattle.model.specs.Prefetch.{occupied}
 use Rattle.prefetch.proofs.occupied.Statement.{statement}
 use Rattle.prefetch.proofs.occupied.Tie as tie
 
-returns : tie.Need-returns
-unfolding occupied
-returns c = refl
-
 pub occupied-spec : {M : Type 1} → statement M
-occupied-spec = tie.close (tie.spec returns)
+unfolding occupied
+occupied-spec =
+    tie.close
+    (tie.spec
+    (λ c. refl))

@@ -1,48 +1,45 @@
 -- `prefetch::restart` meets its contract: each return decides the definition's switch and window. Assumes nothing.
 use borrow.Author.Tests.{not-true, not-false}
-use mathlib.Core.Path.{sym, _∙_}
-use borrow.Author.Needs.{needs}
+use mathlib.Core.Path.{_≡_, sym, _∙_}
+use mathlib.Core.Bool.{true}
 use Rattle.model.specs.Prefetch.{restart}
+use borrow.Author.Needs.{needs}
 use Rattle.prefetch.proofs.restart.Statement.{statement}
 use Rattle.prefetch.proofs.restart.Tie as tie
 
-drain-requires : tie.Need-drain-requires
-drain-requires c κs = search needs
+-- past the switch: the call, and that it is on
+abbrev drained : tie.Else1 → tie.After-drain
+drained c = c .before .before
 
-returns : tie.Need-returns
+on : (c : tie.Else1) → drained c .before .args .buffer .enabled ≡ true
+on c = not-false (drained c .before .args .buffer .enabled) (c .if1 .left)
+
+off : tie.Need-returns
 unfolding restart
-returns c = c .before .before .drain .ensures ∙ simp (not-true (c .before .before .before .args .p .enabled) (c .if1 .taken))
-
-window-from-addr-requires : tie.Need-window-from-addr-requires
-window-from-addr-requires c κs = search needs
-
-enum-known-window : tie.Need-enum-known-window
-enum-known-window c = search needs
-
-enum-told : tie.Need-enum-told
-enum-told c = search needs
-
-returns-2 : tie.Need-returns-2
-unfolding restart
-returns-2 c =
+off c =
     let d = c .before .before in
-    d .before .before .before .drain .ensures
-    ∙ simp (not-false (d .before .before .before .before .args .p .enabled) (d .before .if1 .left), sym (d .window-from-addr .ensures) ∙ c .enum-told .given .1)
+    d .drain .ensures ∙ simp (not-true (d .before .args .buffer .enabled) (c .if1 .taken))
 
-mul-q : tie.Need-mul-q
-mul-q c = search needs
-
-rom-half-cycles-requires : tie.Need-rom-half-cycles-requires
-rom-half-cycles-requires c κs = search needs
-
-returns-3 : tie.Need-returns-3
+outside : tie.Need-returns-2
 unfolding restart
-returns-3 c =
-    let d = c .before .before .before .before in
+outside c =
+    let found = c .before .before in
+    drained (found .before) .drain .ensures
+    ∙ simp (on (found .before), sym (found .window-from-addr .ensures) ∙ c .enum-told .given .1)
+
+-- where the window is bound
+abbrev found : tie.After-window → tie.After-window-from-addr
+found c = c .before .before
+
+starts : tie.Need-returns-3
+unfolding restart
+starts c =
+    let w = c .before .before in
+    let e = found w .before in
     simp (
-      not-false (d .before .before .before .before .args .p .enabled) (d .before .if1 .left),
-      sym (d .window-from-addr .ensures) ∙ c .before .before .window .given .1,
-      d .before .before .before .drain .ensures,
+      on e,
+      sym (found w .window-from-addr .ensures) ∙ w .window .given .1,
+      drained e .drain .ensures,
       c .rom-half-cycles .ensures,
     )
 
@@ -50,12 +47,12 @@ pub restart-spec : {M : Type 1} → statement M
 restart-spec =
     tie.close
     (tie.spec
-    drain-requires
-    returns
-    window-from-addr-requires
-    enum-known-window
-    enum-told
-    returns-2
-    mul-q
-    rom-half-cycles-requires
-    returns-3)
+    (λ c κs. search needs)
+    off
+    (λ c κs. search needs)
+    (λ c. search needs)
+    (λ c. search needs)
+    outside
+    (λ c. search needs)
+    (λ c κs. search needs)
+    starts)

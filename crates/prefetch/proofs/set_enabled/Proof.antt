@@ -1,10 +1,10 @@
 -- `prefetch::set_enabled` meets its contract: by the two values of the switch, before and after. Assumes nothing.
 use mathlib.Core.Path.{_≡_, refl, sym, _∙_}
 use mathlib.Core.Bool.{Bool, true, false, Bool·beq, false≢true}
-use borrow.Author.Needs.{needs}
 use Rattle.model.specs.Laws.Choice.{if-false}
 use Rattle.model.specs.declared.PrefetchBuffer.{PrefetchBuffer}
 use Rattle.model.specs.Prefetch.{setEnabled}
+use borrow.Author.Needs.{needs}
 use Rattle.prefetch.proofs.set_enabled.Statement.{statement}
 use Rattle.prefetch.proofs.set_enabled.Tie as tie
 
@@ -25,21 +25,19 @@ unfolding setEnabled
 stays true p e = rw (← e)
 stays false p e = sym (if-false _ _ _ e)
 
-returns : tie.Need-returns
-returns c = stays (c .before .before .args .enable) (c .before .before .args .p) (alike _ _ (c .if1 .taken))
+-- past both tests: the switch moves, to off
+abbrev entry : tie.Else2 → tie.Start
+entry c = c .before .before .before
 
-returns-2 : tie.Need-returns-2
-unfolding setEnabled
-returns-2 c = simp (c .if2 .taken)
-
-drain-requires : tie.Need-drain-requires
-drain-requires c κs = search needs
-
-returns-3 : tie.Need-returns-3
-unfolding setEnabled
-returns-3 c =
-    let a = c .before .before .before .before .args in
-    c .drain .ensures ∙ simp (c .before .if2 .left, other (a .p .enabled) (a .enable) (c .before .before .if1 .left) (c .before .if2 .left))
+was-on : (c : tie.Else2) → entry c .args .buffer .enabled ≡ true
+was-on c = other (entry c .args .buffer .enabled) (entry c .args .enable) (c .before .if1 .left) (c .if2 .left)
 
 pub set-enabled-spec : {M : Type 1} → statement M
-set-enabled-spec = tie.close (tie.spec returns returns-2 drain-requires returns-3)
+unfolding setEnabled
+set-enabled-spec =
+    tie.close
+    (tie.spec
+    (λ c. let a = c .before .before .args in stays (a .enable) (a .buffer) (alike _ _ (c .if1 .taken)))
+    (λ c. simp (c .if2 .taken))
+    (λ c κs. search needs)
+    (λ c. c .drain .ensures ∙ simp (c .before .if2 .left, was-on (c .before))))

@@ -1,114 +1,79 @@
--- `region::decode` meets its contract: each arm of the match computes the definition's tests. Assumes nothing.
+-- `region::decode` meets its contract: each arm of the match decides the definition's tests. Assumes nothing.
 use borrow.Author.Tests.{le-ltb, lt-ltb}
 use native.Mathlib.Omega.{arith}
-use mathlib.Core.Path.{_≡_}
-use Prim.Native.Nat.{ℕ, suc, zero-le, _/_, _≤_}
-use Rattle.model.specs.Region.{decode}
+use mathlib.Core.Path.{_≡_, sym, ap}
+use lib.Dec.{ltb}
+use Prim.Native.Nat.{ℕ, suc, zero-le, _≤_, _<_}
+use Rattle.model.specs.Base.{if_then_else_}
+use Rattle.model.specs.Region.{page, regionAt, decode}
+use Rattle.model.specs.declared.Region.the-variants.{GamePakRomWs0, GamePakRomWs1, GamePakRomWs2, GamePakSram, UnusedHigh}
 use Rattle.region.proofs.decode.Statement.{statement}
 use Rattle.region.proofs.decode.Tie as tie
+
+-- the arms of one page each
+one-page : (k a : ℕ) → page a ≡ k → decode a ≡ regionAt k a
+unfolding decode
+one-page k a e = ap (λ (p : ℕ). regionAt p a) e
 
 -- a number from k on that is not k is past k
 past : (k p : ℕ) → k ≤ p → (p ≡ k → ⊥) → suc k ≤ p
 past k p h n = omega arith
 
-returns : tie.Need-returns
-unfolding decode
-returns c = simp (c .before .match .keys1, lt-ltb _ _ (c .if1 .taken))
+-- past them
+from8 : (c : tie.At-match-rest) → 0x08 ≤ page (c .before .args .addr)
+from8 c =
+    let r = c .match .rest in
+    let from2 = past 1 _ (past 0 _ zero-le (r .0 .0 .0 .0 .0 .0 .0 .1)) (r .0 .0 .0 .0 .0 .0 .1) in
+    let from5 = past 4 _ (past 3 _ (past 2 _ from2 (r .0 .0 .0 .0 .0 .1)) (r .0 .0 .0 .0 .1)) (r .0 .0 .0 .1) in
+    past 7 _ (past 6 _ (past 5 _ from5 (r .0 .0 .1)) (r .0 .1)) (r .1)
 
-returns-2 : tie.Need-returns-2
-unfolding decode
-returns-2 c = simp (c .before .match .keys1, le-ltb _ _ (c .if1 .left))
+-- the arms of two pages each, and above
+module _ (a : ℕ) where
+  ws0 : 0x08 ≤ page a → page a < 0x0A → GamePakRomWs0 ≡ decode a
+  unfolding decode
+  ws0 l h = simp (le-ltb (page a) 0x08 l, lt-ltb (page a) 0x0A h)
 
-returns-3 : tie.Need-returns-3
-unfolding decode
-returns-3 c = simp (c .match .keys2)
+  ws1 : 0x0A ≤ page a → page a < 0x0C → GamePakRomWs1 ≡ decode a
+  unfolding decode
+  ws1 l h = simp (le-ltb (page a) 0x08 (omega arith), le-ltb (page a) 0x0A l, lt-ltb (page a) 0x0C h)
 
-returns-4 : tie.Need-returns-4
-unfolding decode
-returns-4 c = simp (c .match .keys3)
+  ws2 : 0x0C ≤ page a → page a < 0x0E → GamePakRomWs2 ≡ decode a
+  unfolding decode
+  ws2 l h =
+      let from10 : 0x0A ≤ page a = omega arith in
+      simp (le-ltb (page a) 0x08 (omega arith), le-ltb (page a) 0x0A from10, le-ltb (page a) 0x0C l, lt-ltb (page a) 0x0E h)
 
-returns-5 : tie.Need-returns-5
-unfolding decode
-returns-5 c = simp (c .match .keys4)
+  past-rom : 0x0E ≤ page a → decode a ≡ (if ltb (page a) 0x10 then GamePakSram else UnusedHigh)
+  unfolding decode
+  past-rom l =
+      simp (
+        le-ltb (page a) 0x08 (omega arith),
+        le-ltb (page a) 0x0A (omega arith),
+        le-ltb (page a) 0x0C (omega arith),
+        le-ltb (page a) 0x0E l,
+      )
 
-returns-6 : tie.Need-returns-6
-unfolding decode
-returns-6 c = simp (c .match .keys5)
+  sram : 0x0E ≤ page a → page a < 0x10 → GamePakSram ≡ decode a
+  sram l h = simp (past-rom l, lt-ltb (page a) 0x10 h)
 
-returns-7 : tie.Need-returns-7
-unfolding decode
-returns-7 c = simp (c .match .keys6)
-
-returns-8 : tie.Need-returns-8
-unfolding decode
-returns-8 c = simp (c .match .keys7)
-
-returns-9 : tie.Need-returns-9
-unfolding decode
-returns-9 c = simp (c .match .keys8)
-
-returns-10 : tie.Need-returns-10
-unfolding decode
-returns-10 c =
-    let p = c .before .before .args .addr / 0x1000000 in
-    let r = c .before .match .rest in
-    simp (
-      le-ltb p 8
-          (past 7 p
-          (past 6 p
-          (past 5 p
-          (past 4 p
-          (past 3 p
-          (past 2 p
-          (past 1 p (past 0 p zero-le (r .0 .0 .0 .0 .0 .0 .0 .1)) (r .0 .0 .0 .0 .0 .0 .1))
-          (r .0 .0 .0 .0 .0 .1))
-          (r .0 .0 .0 .0 .1))
-          (r .0 .0 .0 .1))
-          (r .0 .0 .1))
-          (r .0 .1))
-          (r .1)),
-      lt-ltb p 10 (c .if2 .taken),
-    )
-
-returns-11 : tie.Need-returns-11
-unfolding decode
-returns-11 c =
-    let p = c .before .before .before .args .addr / 0x1000000 in
-    simp (le-ltb p 8 (omega arith), le-ltb p 10 (omega arith), lt-ltb p 12 (omega arith))
-
-returns-12 : tie.Need-returns-12
-unfolding decode
-returns-12 c =
-    let p = c .before .before .before .before .args .addr / 0x1000000 in
-    simp (le-ltb p 8 (omega arith), le-ltb p 10 (omega arith), le-ltb p 12 (omega arith), lt-ltb p 14 (omega arith))
-
-returns-13 : tie.Need-returns-13
-unfolding decode
-returns-13 c =
-    let p = c .before .before .before .before .before .args .addr / 0x1000000 in
-    simp (le-ltb p 8 (omega arith), le-ltb p 10 (omega arith), le-ltb p 12 (omega arith), le-ltb p 14 (omega arith), lt-ltb p 16 (omega arith))
-
-returns-14 : tie.Need-returns-14
-unfolding decode
-returns-14 c =
-    let p = c .before .before .before .before .before .args .addr / 0x1000000 in
-    simp (le-ltb p 8 (omega arith), le-ltb p 10 (omega arith), le-ltb p 12 (omega arith), le-ltb p 14 (omega arith), le-ltb p 16 (omega arith))
+  above : 0x10 ≤ page a → UnusedHigh ≡ decode a
+  above l = simp (past-rom (omega arith), le-ltb (page a) 0x10 l)
 
 pub decode-spec : {M : Type 1} → statement M
 decode-spec =
     tie.close
     (tie.spec
-    returns
-    returns-2
-    returns-3
-    returns-4
-    returns-5
-    returns-6
-    returns-7
-    returns-8
-    returns-9
-    returns-10
-    returns-11
-    returns-12
-    returns-13
-    returns-14)
+    (λ c. simp (one-page 0x00 _ (c .before .match .keys1), lt-ltb _ _ (c .if1 .taken)))
+    (λ c. simp (one-page 0x00 _ (c .before .match .keys1), le-ltb _ _ (c .if1 .left)))
+    (λ c. sym (one-page 0x01 _ (c .match .keys2)))
+    (λ c. sym (one-page 0x02 _ (c .match .keys3)))
+    (λ c. sym (one-page 0x03 _ (c .match .keys4)))
+    (λ c. sym (one-page 0x04 _ (c .match .keys5)))
+    (λ c. sym (one-page 0x05 _ (c .match .keys6)))
+    (λ c. sym (one-page 0x06 _ (c .match .keys7)))
+    (λ c. sym (one-page 0x07 _ (c .match .keys8)))
+    (λ c. ws0 _ (from8 (c .before)) (omega arith))
+    (λ c. ws1 _ (omega arith) (omega arith))
+    (λ c. ws2 _ (omega arith) (omega arith))
+    (λ c. sram _ (omega arith) (omega arith))
+    (λ c. above _ (omega arith)))

@@ -1,55 +1,54 @@
 -- `fetch_step` meets its contract: what was found says whether the buffer hit. Assumes nothing.
-use mathlib.Core.Path.{sym, ap, _∙_}
+use mathlib.Core.Path.{_≡_, sym, ap, _∙_}
+use Rattle.model.specs.Prefetch.{fetched}
 use Rattle.model.specs.Step.{withPrefetch}
-use Rattle.prefetch.specs.declared.Fetched.{Fetched}
-use Rattle.step.specs.Parts.{fetch-hits, fetch-misses}
 use Rattle.model.specs.declared.Clock.{Clock}
+use Rattle.prefetch.specs.Found.{found}
+use Rattle.prefetch.specs.declared.Fetched.{Fetched}
+use Rattle.step.specs.Fetch.{fetch-hits, fetch-misses}
 use borrow.Author.Needs.{needs}
 use Rattle.step.proofs.fetch_step.Statement.{statement}
 use Rattle.step.proofs.fetch_step.Tie as tie
 
-try-fetch-half-requires : tie.Need-try-fetch-half-requires
-try-fetch-half-requires c κs = search needs
+-- after the fetch: the call's beginning, the clock, and the half
+abbrev start : tie.After-with-prefetch → tie.Start
+start c = c .before .before .before .before
 
-with-prefetch-requires : tie.Need-with-prefetch-requires
-with-prefetch-requires c κs = search needs
+abbrev got : tie.After-with-prefetch → tie.After-try-fetch-half
+got c = c .before .before
 
-enum-known-half : tie.Need-enum-known-half
-enum-known-half c = search needs
+clock-is : (c : tie.After-with-prefetch) → c .with-prefetch .result ≡ withPrefetch (start c .args .clock) (fetched (start c .args .clock .prefetch) (start c .args .addr))
+clock-is c = c .with-prefetch .ensures ∙ ap (λ (f : Fetched). withPrefetch (start c .args .clock) (f .prefetch)) ((got c) .try-fetch-half .ensures)
 
-enum-told : tie.Need-enum-told
-enum-told c = search needs
-
-quiet-requires : tie.Need-quiet-requires
-quiet-requires c κs = search needs
+half-is : (c : tie.After-with-prefetch)
+    → (got c) .try-fetch-half .result .half ≡ found (start c .args .halves .now) (start c .args .clock .prefetch) (start c .args .addr)
+half-is c = ap (λ (f : Fetched). f .half) ((got c) .try-fetch-half .ensures)
 
 returns : tie.Need-returns
 returns c =
-    let a = c .before .before .before .before .before .before .before .args in
-    let got = c .before .before .before .before .before .try-fetch-half .ensures in
-    c .quiet .ensures
-    ∙ ap (λ (k : Clock). record { clock = k; contents = a .contents; value = 0; cycles = 0; hits = 0; idle = 0 }) (c .before .before .before .with-prefetch .ensures ∙ ap (λ (f : Fetched). withPrefetch (a .clock) (f .prefetch)) got)
-    ∙ fetch-misses (a .clock) (a .halves .now) (a .contents) (a .addr) (sym (ap (λ (f : Fetched). f .half) got) ∙ c .before .enum-told .given .1)
-
-cast-t11 : tie.Need-cast-t11
-cast-t11 c = search needs
+    let at = c .before .before .before in
+    let a = start at .args in
+    c .unanswered .ensures
+    ∙ ap (λ (k : Clock). record { clock = k; idle = 0; cycles = 0; hits = 0; value = 0; contents = a .contents }) (clock-is at)
+    ∙ fetch-misses (a .clock) (a .halves .now) (a .contents) (a .addr) (sym (half-is at) ∙ c .before .enum-told .given .1)
 
 returns-2 : tie.Need-returns-2
 returns-2 c =
-    let a = c .before .before .before .before .before .before .before .args in
-    let got = c .before .before .before .before .before .try-fetch-half .ensures in
-    ap (λ (k : Clock). record { clock = k; contents = a .contents; value = c .before .half .given .0 .0; cycles = 0; hits = 1; idle = 0 }) (c .before .before .before .with-prefetch .ensures ∙ ap (λ (f : Fetched). withPrefetch (a .clock) (f .prefetch)) got)
-    ∙ fetch-hits (a .clock) (a .halves .now) (a .contents) (a .addr) (c .before .half .given .0 .0) (sym (ap (λ (f : Fetched). f .half) got) ∙ c .before .half .given .1)
+    let at = c .before .before .before in
+    let a = start at .args in
+    let v = c .before .half .given .0 .0 in
+    ap (λ (k : Clock). record { clock = k; idle = 0; cycles = 0; hits = 1; value = v; contents = a .contents }) (clock-is at)
+    ∙ fetch-hits (a .clock) (a .halves .now) (a .contents) (a .addr) v (sym (half-is at) ∙ c .before .half .given .1)
 
 pub fetch-step-spec : {M : Type 1} → statement M
 fetch-step-spec =
     tie.close
     (tie.spec
-    try-fetch-half-requires
-    with-prefetch-requires
-    enum-known-half
-    enum-told
-    quiet-requires
+    (λ c κs. search needs)
+    (λ c κs. search needs)
+    (λ c. search needs)
+    (λ c. search needs)
+    (λ c κs. search needs)
     returns
-    cast-t11
+    (λ c. search needs)
     returns-2)

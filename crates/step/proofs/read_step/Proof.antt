@@ -1,18 +1,40 @@
--- `read_step` meets its contract: the value is the load, the cycles the data price. Assumes nothing.
+-- `read_step` meets its contract: the address is decoded once, for the load and for the price. Assumes nothing.
+use mathlib.Core.Path.{_≡_, ap, _∙_}
+use Rattle.model.specs.Waitcnt.{romWaits, sramWaits}
+use Rattle.model.specs.Memory.{targetIn, target}
+use Rattle.model.specs.Price.{price, dataBeatsIn, dataBeats}
+use Rattle.model.specs.declared.Region.{Region}
 use borrow.Author.Needs.{needs}
 use Rattle.step.proofs.read_step.Statement.{statement}
 use Rattle.step.proofs.read_step.Tie as tie
 
-read-requires : tie.Need-read-requires
-read-requires c κs = search needs
+-- the memory that the address meets
+met : (c : tie.After-target-in) → c .target-in .result ≡ target (c .before .before .before .before .before .args .lengths) (c .before .before .before .before .before .args .addr)
+unfolding target
+met c =
+    let a = c .before .before .before .before .before .args in
+    c .target-in .ensures ∙ ap (targetIn (a .lengths) (a .addr)) (c .before .decode .ensures)
 
-data-price-requires : tie.Need-data-price-requires
-data-price-requires c κs = search needs
+read-requires : tie.Need-read-requires
+read-requires c κs = record { memory = met c; whole = c .before .before .before .before .before .pre .1 }
 
 returns : tie.Need-returns
-returns c x =
-    let a = c .before .before .before .before .before .args in
-    record { clock = a .clock; contents = a .contents; value = c .before .read .ensures x; cycles = c .data-price .ensures x; hits = 0; idle = 0 }
+unfolding dataBeats
+returns c =
+    let at = c .before .before in
+    let a = at .before .before .before .before .before .args in
+    let priced =
+    c .data-price .ensures
+    ∙ ap (λ (r : Region). price (romWaits (a .clock .waitcnt)) (dataBeatsIn (sramWaits (a .clock .waitcnt)) (a .size) r)) (at .before .decode .ensures)
+    in
+    λ x. record { clock = a .clock; idle = 0; cycles = priced x; hits = 0; value = c .before .read .ensures x; contents = a .contents }
 
 pub read-step-spec : {M : Type 1} → statement M
-read-step-spec = tie.close (tie.spec read-requires data-price-requires returns)
+read-step-spec =
+    tie.close
+    (tie.spec
+    (λ c κs. search needs)
+    (λ c κs. search needs)
+    read-requires
+    (λ c κs. search needs)
+    returns)

@@ -7,16 +7,15 @@ use borrow.Author.Needs.{needs}
 use Rattle.step.proofs.restarted.Statement.{statement}
 use Rattle.step.proofs.restarted.Tie as tie
 
-restart-requires : tie.Need-restart-requires
-restart-requires c κs = search needs
-
-with-prefetch-requires : tie.Need-with-prefetch-requires
-with-prefetch-requires c κs = search needs
-
 returns : tie.Need-returns
 returns c =
-    let a = c .before .before .before .args in
-    c .with-prefetch .ensures ∙ ap (withPrefetch (a .clock)) (c .before .restart .ensures ∙ ap (λ (t : Waits). restart t (a .clock .prefetch) (a .addr)) (c .before .before .before .pre))
+    let start = c .before .before .before in
+    let a = start .args in
+    c .with-prefetch .ensures
+    ∙ ap (withPrefetch (a .clock)) (c .before .restart .ensures ∙ ap (λ (t : Waits). restart t (a .clock .prefetch) (a .addr)) (start .pre))
 
 pub restarted-spec : {M : Type 1} → statement M
-restarted-spec = tie.close (tie.spec restart-requires with-prefetch-requires returns)
+restarted-spec = tie.close (tie.spec
+    (λ c κs. search needs)
+    (λ c κs. search needs)
+    returns)

@@ -1,55 +1,63 @@
--- `write_step` meets its contract: the store is what the store leaf ensures, and its count goes to the region's counter. Assumes nothing.
-use mathlib.Core.Path.{ap₂, _∙_}
+-- `write_step` meets its contract: the address is decoded once, for the store, its count and the price. Assumes nothing.
+use mathlib.Core.Path.{_≡_, refl, sym, ap, ap₂, _∙_}
 use Prim.Native.Nat.{ℕ}
-use Rattle.step.specs.Parts.{write-contents}
-use Rattle.step.specs.Parts as parts
-use Rattle.model.specs.declared.Contents.{Contents}
+use Rattle.model.specs.Waitcnt.{romWaits, sramWaits}
+use Rattle.model.specs.Memory.{targetIn, target}
+use Rattle.model.specs.Price.{price, dataBeatsIn, dataBeats}
+use Rattle.model.specs.Store.{puts, putsAt, landed, modeOf, videoCount}
+use Rattle.model.specs.Step.{countedAt, countStore}
+use Rattle.model.specs.Laws.Places.{Lies, target-lies}
 use Rattle.model.specs.declared.Region.{Region}
-use mathlib.Core.List.{[]}
+use Rattle.model.specs.declared.Target.{Target}
 use borrow.Author.Needs.{needs}
 use Rattle.step.proofs.write_step.Statement.{statement}
 use Rattle.step.proofs.write_step.Tie as tie
 
+-- the memory that the address meets
+abbrev start : tie.After-target-in → tie.Start
+start c = c .before .before .before
+
+met : (c : tie.After-target-in) → c .target-in .result ≡ target (start c .args .lengths) (start c .args .addr)
+unfolding target
+met c = c .target-in .ensures ∙ ap (targetIn (start c .args .lengths) (start c .args .addr)) (c .before .decode .ensures)
+
 write-requires : tie.Need-write-requires
-write-requires c κs = search needs
-
-decode-requires : tie.Need-decode-requires
-decode-requires c κs = search needs
-
-count-stores-requires : tie.Need-count-stores-requires
-count-stores-requires c κs = search needs
-
-data-price-requires : tie.Need-data-price-requires
-data-price-requires c κs = search needs
-
-quiet-requires : tie.Need-quiet-requires
-quiet-requires c κs = search needs
-
-same-length : tie.Need-same-length
-same-length c = search needs
+write-requires c κs =
+    let at = c .before in
+    let a = start at .args in
+    record { memory = rw (met at, ← start at .pre .1) (target-lies (a .lengths) (a .addr)); whole = start at .pre .1 }
 
 returns : tie.Need-returns
+unfolding puts countStore dataBeats
 returns c =
-    let a = c .before .before .before .before .before .before .before .before .before .args in
-    let m = parts.mediaFrom [] [] (a .lengths) in
-    let s = parts.stateFrom (a .clock) [] (a .contents) (a .store .now) in
-    let counted =
-    c .before .before .count-stores .ensures
-    ∙ ap₂ (λ (r : Region) (k : ℕ). parts.countedBy r k (a .contents)) (c .before .before .before .decode .ensures) (c .before .before .before .before .before .before .write .ensures .1)
-    ∙ write-contents m s (a .size) (a .addr) (a .value) in (
-      c .quiet .ensures
-          ∙ ap₂ (λ (d : Contents) (n : ℕ). record { clock = a .clock; contents = d; value = 0; cycles = n; hits = 0; idle = 0 }) counted (c .before .data-price .ensures),
-      c .before .before .before .before .before .before .write .ensures .0,
-    )
+    let counted = c .before .before in
+    let stored = counted .before .before .before in
+    let at = stored .before .before in
+    let a = start at .args in
+    let mode = modeOf (a .lengths) (a .store .now) in
+    let priced =
+    c .before .data-price .ensures
+    ∙ ap (λ (r : Region). price (romWaits (a .clock .waitcnt)) (dataBeatsIn (sramWaits (a .clock .waitcnt)) (a .size) r)) (at .before .decode .ensures)
+    in
+    let contents =
+    counted .count-store .ensures
+    ∙ ap (λ (n : ℕ). countedAt (at .target-in .result) n (a .contents)) (stored .write .ensures .halfwords)
+    ∙ ap (λ (t : Target). countedAt t (videoCount mode (a .size) t) (a .contents)) (met at)
+    in
+    record {
+      record-is = c .unanswered .ensures ∙ (λ x. record { clock = a .clock; idle = 0; cycles = priced x; hits = 0; value = 0; contents = contents x });
+      store-is = stored .write .ensures .bytes ∙ ap (λ (t : Target). landed (a .store .now) (putsAt mode (a .size) (a .addr) (a .value) t)) (met at);
+    }
 
 pub write-step-spec : {M : Type 1} → statement M
 write-step-spec =
     tie.close
     (tie.spec
+    (λ c κs. search needs)
+    (λ c κs. search needs)
     write-requires
-    decode-requires
-    count-stores-requires
-    data-price-requires
-    quiet-requires
-    same-length
+    (λ c κs. search needs)
+    (λ c κs. search needs)
+    (λ c κs. search needs)
+    (λ c. search needs)
     returns)

@@ -1,82 +1,75 @@
--- `write` meets its contract: each arm is its callee's, at the value's low bits. Assumes nothing.
-use mathlib.Core.Path.{_∙_, refl}
-use Rattle.model.specs.Store.{target, modeOf}
-use Rattle.model.specs.Laws.HalfStores.{half-low, any-mode}
-use Rattle.model.specs.declared.AccessSize.the-variants.{Half, Word}
+-- `write` meets its contract: each arm stores in the memory that it matched, which lies in the store. Assumes nothing.
+use mathlib.Core.Path.{refl}
+use Rattle.stores.proofs.Arms.{lane-small, lane-lands}
 use borrow.Author.Needs.{needs}
 use Rattle.stores.proofs.write.Statement.{statement}
 use Rattle.stores.proofs.write.Tie as tie
 
-enum-told : tie.Need-enum-told
-enum-told c = search needs
+write-plain-requires : tie.Need-write-plain-requires
+write-plain-requires c κs = (rw (c .before .before .target .given .1) at (c .before .before .before .before .before .pre .memory)) .end
 
-cast-write8 : tie.Need-cast-write8
-cast-write8 c = search needs
+write-video-requires : tie.Need-write-video-requires
+write-video-requires c κs =
+    let start = c .before .before .before .before .before in
+    record { memory = rw (c .before .before .target2 .given .1) at (start .pre .memory); whole = start .pre .whole }
 
-write8-requires : tie.Need-write8-requires
-write8-requires c κs = search needs
+rem-lane : tie.Need-rem-lane
+rem-lane c = let a = c .before .before .before .before .before .before .args in rw (c .size-bytes .ensures) ((lane-small (a .addr) (a .size)) .some)
 
-enum-told-2 : tie.Need-enum-told-2
-enum-told-2 c = search needs
+lane-requires : tie.Need-lane-requires
+lane-requires c κs = let a = c .before .before .before .before .before .before .args in rw (c .size-bytes .ensures) ((lane-small (a .addr) (a .size)) .below)
 
-cast-write16 : tie.Need-cast-write16
-cast-write16 c = search needs
-
-write16-requires : tie.Need-write16-requires
-write16-requires c κs = search needs
-
-enum-told-3 : tie.Need-enum-told-3
-enum-told-3 c = search needs
-
-write32-requires : tie.Need-write32-requires
-write32-requires c κs = search needs
-
-same-length : tie.Need-same-length
-same-length c = search needs
+put-requires : tie.Need-put-requires
+put-requires c κs = (rw (c .before .before .before .before .target3 .given .1) at (c .before .before .before .before .before .before .before .pre .memory)) .end
 
 returns : tie.Need-returns
-returns c =
-    let z = c .before .before .before .before .enum-told .given .1 in
-    let w = c .before .before .write8 .ensures in
-    (w .0 ∙ simp z, w .1 ∙ simp z)
-
-same-length-2 : tie.Need-same-length-2
-same-length-2 c = search needs
+returns c = simp (c .enum-told .given .1) (record { bytes = refl; halfwords = refl })
 
 returns-2 : tie.Need-returns-2
-returns-2 c =
-    let a = c .before .before .before .before .before .before .before .args in
-    let z = c .before .before .before .before .enum-told2 .given .1 in
-    let w = c .before .before .write16 .ensures in
-    let n = any-mode Half refl 0 (modeOf (a .lengths) (a .store .now)) (target (a .lengths) (a .addr)) in
-    (w .0 ∙ simp (z, half-low), w .1 ∙ n ∙ simp z)
-
-same-length-3 : tie.Need-same-length-3
-same-length-3 c = search needs
+returns-2 c = simp (c .enum-told2 .given .1) (record { bytes = refl; halfwords = refl })
 
 returns-3 : tie.Need-returns-3
-returns-3 c =
-    let a = c .before .before .before .before .before .before .before .args in
-    let z = c .before .before .before .before .enum-told3 .given .1 in
-    let w = c .before .before .write32 .ensures in
-    let n = any-mode Word refl 0 (modeOf (a .lengths) (a .store .now)) (target (a .lengths) (a .addr)) in
-    (w .0 ∙ simp z, w .1 ∙ n ∙ simp z)
+returns-3 c = simp (c .enum-told3 .given .1) (record { bytes = refl; halfwords = refl })
+
+returns-4 : tie.Need-returns-4
+returns-4 c = simp (c .before .before .before .before .before .target .given .1) (record { bytes = c .before .before .write-plain .ensures; halfwords = refl })
+
+returns-5 : tie.Need-returns-5
+returns-5 c = simp (c .before .before .before .before .before .target2 .given .1) (c .before .before .write-video .ensures)
+
+returns-6 : tie.Need-returns-6
+returns-6 c =
+    let laned = c .before .before .before in
+    let told = laned .before .before .before .before in
+    let a = told .before .before .before .args in
+    simp (told .target3 .given .1)
+    (record {
+      bytes = lane-lands (a .store .now) _ _ (a .addr) (a .value) (a .size) (laned .before .size-bytes .ensures) (laned .lane .ensures) (c .before .before .put .ensures);
+      halfwords = refl;
+    })
 
 pub write-spec : {M : Type 1} → statement M
 write-spec =
     tie.close
     (tie.spec
-    enum-told
-    cast-write8
-    write8-requires
-    enum-told-2
-    cast-write16
-    write16-requires
-    enum-told-3
-    write32-requires
-    same-length
+    (λ c. search needs)
+    (λ c. search needs)
+    (λ c. search needs)
+    (λ c. search needs)
+    write-plain-requires
+    (λ c. search needs)
+    write-video-requires
+    (λ c. search needs)
+    (λ c κs. search needs)
+    rem-lane
+    lane-requires
+    put-requires
     returns
-    same-length-2
     returns-2
-    same-length-3
-    returns-3)
+    returns-3
+    (λ c. search needs)
+    returns-4
+    (λ c. search needs)
+    returns-5
+    (λ c. search needs)
+    returns-6)

@@ -1,80 +1,75 @@
--- `timing::price_insn` meets its contract: a fetch costs at most 18, so that the sums fit, and each result is the definition's. Assumes nothing.
-use mathlib.Core.Path.{ap, ap₂, _∙_}
+-- `price_insn` meets its contract: a fetch costs at most 18, so that the sums fit, and each result is the definition's. Assumes nothing.
+use mathlib.Core.Path.{_≡_, ap, ap₂, _∙_}
 use mathlib.Core.Bool.{Bool}
-use Prim.Native.Nat.{ℕ, _+_}
+use Prim.Native.Nat.{ℕ, _+_, _≤_}
 use Rattle.model.specs.Base.{bit}
 use Rattle.model.specs.Wait.{window}
+use Rattle.model.specs.Price.{price}
 use Rattle.model.specs.DisableBug.{forceNextFetchNonseq}
-use Rattle.model.specs.Timing.{fetchIn, fetchCycles, cartIdle, disableBug, priceInsn}
+use Rattle.model.specs.Timing.{internal, fetchBeatsIn, fetchBeats, cartIdle, disableBug, priceInsn}
 use Rattle.model.specs.Laws.Choice.{bit≤1}
-use Rattle.model.specs.Laws.Bounds.{fetchIn-between, idleIn≤6}
+use Rattle.model.specs.Laws.Bounds.{fetch-between, idleIn≤6}
 use Rattle.model.specs.declared.AccessKind.{AccessKind}
 use Rattle.timing.specs.declared.FetchPrice.{FetchPrice}
+use Rattle.timing.proofs.Beats.{Small}
 use native.Mathlib.Omega.{arith}
 use borrow.Author.Needs.{needs}
 use Rattle.timing.proofs.price_insn.Statement.{statement}
 use Rattle.timing.proofs.price_insn.Tie as tie
 
-had-internal-requires : tie.Need-had-internal-requires
-had-internal-requires c κs = search needs
+-- where both sums are made, and the fetch that was priced
+abbrev start : tie.After-bit → tie.Start
+start c = c .before .before .before .before .before .before
 
-kind-by-flag-requires : tie.Need-kind-by-flag-requires
-kind-by-flag-requires c κs = search needs
+abbrev fetch : tie.After-bit → tie.After-price-fetch
+fetch c = c .before .before .before
 
-price-fetch-requires : tie.Need-price-fetch-requires
-price-fetch-requires c κs = search needs
+-- the internal cycle
+one : (c : tie.After-bit) → c .bit .result ≡ bit (internal (start c .args .input .isa) (start c .args .input .«opcode_raw»))
+one c = c .bit .ensures ∙ ap bit ((fetch c) .before .before .had-internal .ensures)
 
-in-window-requires : tie.Need-in-window-requires
-in-window-requires c κs = search needs
-
-force-next-fetch-nonseq-requires : tie.Need-force-next-fetch-nonseq-requires
-force-next-fetch-nonseq-requires c κs = search needs
-
-one-if-requires : tie.Need-one-if-requires
-one-if-requires c κs = search needs
-
-add-t12 : tie.Need-add-t12
-add-t12 c =
-    let g = c .before .before .before .before .before .before .before in
-    let i = g .args .input in
-    let f = c .before .before .before .before .price-fetch .ensures in
-    omega (
-      arith,
-      ap (λ (r : FetchPrice). r .cycles) f,
-      fetchIn-between (g .args .waits) (g .pre) (g .args .prefetch) (i .«code_addr») (c .before .before .before .before .before .kind-by-flag .result) (i .isa) (window (i .«code_addr»)),
-      bit≤1 (c .before .before .before .before .before .before .had-internal .result),
-    )
+-- each sum is of two small numbers
+small : (c : tie.After-bit) → Small ((fetch c) .price-fetch .result) (c .bit .result)
+small c =
+    let a = start c .args in
+    let at = a .input .«code_addr» in
+    let priced = (fetch c) .price-fetch .ensures in
+    let kind = (fetch c) .before .nonseq-if .result in
+    let few = fetch-between (a .waits) (start c .pre) (a .prefetch) at kind (a .input .isa) (window at) in
+    let bit-small = bit≤1 ((fetch c) .before .before .had-internal .result) in
+    record {
+      cycles = omega (arith, ap (λ (r : FetchPrice). r .cycles) priced, few .most);
+      idle = omega (arith, ap (λ (r : FetchPrice). r .«cart_idle») priced, idleIn≤6 (a .waits) at (a .input .isa) (window at));
+      internal = omega (arith, c .bit .ensures, bit-small);
+    }
 
 add-t13 : tie.Need-add-t13
-add-t13 c =
-    let i = c .before .before .before .before .before .before .before .before .args .input in
-    omega (
-      arith,
-      ap (λ (r : FetchPrice). r .«cart_idle») (c .before .before .before .before .before .price-fetch .ensures),
-      idleIn≤6 (i .«code_addr») (i .isa) (window (i .«code_addr»)),
-      bit≤1 (c .before .before .before .before .before .before .before .had-internal .result),
-    )
+add-t13 c = omega (arith, small (c .before))
+
+add-t14 : tie.Need-add-t14
+add-t14 c = omega (arith, small (c .before .before))
 
 returns : tie.Need-returns
-unfolding priceInsn fetchCycles cartIdle disableBug
-returns c x =
-    let g = c .before .before .before .before .before .before .before .before .args in
-    let i = g .input in
-    let had = c .before .before .before .before .before .before .before .had-internal .ensures in
-    let kind = c .before .before .before .before .before .before .kind-by-flag .ensures in
-    let fetch = c .before .before .before .before .before .price-fetch .ensures in
-    let one = c .before .before .one-if .ensures ∙ ap bit had in
+unfolding priceInsn fetchBeats cartIdle disableBug
+returns c = λ x.
+    let at = c .before .before in
+    let a = start at .args in
+    let i = a .input in
+    let asked = (fetch at) .before in
+    let priced = (fetch at) .price-fetch .ensures in
+    let kind = asked .nonseq-if .ensures in
     record {
       total =
           ap₂ (λ (m n : ℕ). m + n)
-          (ap (λ (r : FetchPrice). r .cycles) fetch
-          ∙ ap (λ (k : AccessKind). fetchIn (g .waits) (g .prefetch) (i .«code_addr») k (i .isa) (window (i .«code_addr»))) kind)
-          one x;
-      internal = one x;
-      «cart_idle» = ap₂ (λ (m n : ℕ). m + n) (ap (λ (r : FetchPrice). r .«cart_idle») fetch) one x;
+          (ap (λ (r : FetchPrice). r .cycles) priced
+          ∙ ap (λ (k : AccessKind). price (a .waits) (fetchBeatsIn (a .prefetch) (i .«code_addr») k (i .isa) (window (i .«code_addr»)))) kind)
+          (one at) x;
+      internal = one at x;
+      «cart_idle» = ap₂ (λ (m n : ℕ). m + n) (ap (λ (r : FetchPrice). r .«cart_idle») priced) (one at) x;
       «latch_disable_bug» =
-          (c .before .before .before .force-next-fetch-nonseq .ensures
-          ∙ ap₂ (λ (r h : Bool). forceNextFetchNonseq (i .«prefetch_enabled») r h (i .«pc_changed»)) (c .before .before .before .before .in-window .ensures) had) x;
+          (at .before .force-next-fetch-nonseq .ensures
+          ∙ ap₂ (λ (r h : Bool). forceNextFetchNonseq (i .«prefetch_enabled») r h (i .«pc_changed»)) (at .before .before .in-window .ensures)
+          (asked .before .had-internal .ensures)) x;
       «fetch_kind» = kind x;
     }
 
@@ -82,12 +77,13 @@ pub price-insn-spec : {M : Type 1} → statement M
 price-insn-spec =
     tie.close
     (tie.spec
-    had-internal-requires
-    kind-by-flag-requires
-    price-fetch-requires
-    in-window-requires
-    force-next-fetch-nonseq-requires
-    one-if-requires
-    add-t12
+    (λ c κs. search needs)
+    (λ c κs. search needs)
+    (λ c κs. search needs)
+    (λ c κs. search needs)
+    (λ c κs. search needs)
+    (λ c κs. search needs)
+    (λ c. search needs)
     add-t13
+    add-t14
     returns)

@@ -1,73 +1,46 @@
 -- `waits::classify_access` meets its contract: each return decides the definition's tests. Assumes nothing.
 use borrow.Author.Tests.{not-true, not-false, eq-eqb, ne-eqb}
+use mathlib.Core.Path.{_≡_}
+use mathlib.Core.Bool.{Bool, true, false, not, _&&_}
+use mathlib.Core.Logic.{_≢_}
+use Prim.Native.Nat.{ℕ}
+use Rattle.model.specs.Base.{further}
+use Rattle.model.specs.Wait.{sizeBytes, inWindow, forceNonseq, classifyAccess}
+use Rattle.model.specs.declared.AccessSize.{AccessSize}
+use Rattle.model.specs.declared.AccessKind.the-variants.{Nonseq, Seq}
 use borrow.Author.Needs.{needs}
-use Rattle.model.specs.Wait.{classifyAccess}
 use Rattle.waits.proofs.classify_access.Statement.{statement}
 use Rattle.waits.proofs.classify_access.Tie as tie
 
-returns : tie.Need-returns
-unfolding classifyAccess
-returns c = simp (not-true (c .before .args .same-region) (c .if1 .taken))
+-- the definition by its three tests
+module _ (prev : ℕ) (size : AccessSize) (next : ℕ) (same : Bool) where
+  apart : not same ≡ true → Nonseq ≡ classifyAccess prev size next same
+  unfolding classifyAccess
+  apart s = simp (not-true same s)
 
-in-window-requires : tie.Need-in-window-requires
-in-window-requires c κs = search needs
+  new-block : not same ≡ false → inWindow next && forceNonseq next ≡ true → Nonseq ≡ classifyAccess prev size next same
+  unfolding classifyAccess
+  new-block s b = simp (not-false same s, b)
 
-rom-force-nonseq-requires : tie.Need-rom-force-nonseq-requires
-rom-force-nonseq-requires c κs = search needs
+  module _ (s : not same ≡ false) (b : inWindow next && forceNonseq next ≡ false) where
+    follows : next ≡ further (sizeBytes size) prev → Seq ≡ classifyAccess prev size next same
+    unfolding classifyAccess
+    follows e = simp (not-false same s, b, eq-eqb next (further (sizeBytes size) prev) e)
 
-returns-2 : tie.Need-returns-2
-unfolding classifyAccess
-returns-2 c =
-    simp (
-      not-false (c .before .before .before .before .args .same-region) (c .before .before .before .if1 .left),
-      ← c .before .before .in-window .ensures,
-      ← c .before .rom-force-nonseq .ensures,
-      c .if2 .taken,
-    )
-
-size-bytes-requires : tie.Need-size-bytes-requires
-size-bytes-requires c κs = search needs
-
-wrapping-add-u32-requires : tie.Need-wrapping-add-u32-requires
-wrapping-add-u32-requires c κs = search needs
-
-returns-3 : tie.Need-returns-3
-unfolding classifyAccess
-returns-3 c =
-    let d = c .before .before .before in
-    simp (
-      not-false (d .before .before .before .before .args .same-region) (d .before .before .before .if1 .left),
-      ← d .before .before .in-window .ensures,
-      ← d .before .rom-force-nonseq .ensures,
-      d .if2 .left,
-      ← c .before .before .size-bytes .ensures,
-      ← c .before .wrapping-add-u32 .ensures,
-      eq-eqb _ _ (c .if3 .taken),
-    )
-
-returns-4 : tie.Need-returns-4
-unfolding classifyAccess
-returns-4 c =
-    let d = c .before .before .before in
-    simp (
-      not-false (d .before .before .before .before .args .same-region) (d .before .before .before .if1 .left),
-      ← d .before .before .in-window .ensures,
-      ← d .before .rom-force-nonseq .ensures,
-      d .if2 .left,
-      ← c .before .before .size-bytes .ensures,
-      ← c .before .wrapping-add-u32 .ensures,
-      ne-eqb _ _ (c .if3 .left),
-    )
+    jumps : (expected : ℕ) → next ≢ expected → expected ≡ further (sizeBytes size) prev
+        → Nonseq ≡ classifyAccess prev size next same
+    unfolding classifyAccess
+    jumps expected n e = simp (not-false same s, b, ← e, ne-eqb next expected n)
 
 pub classify-access-spec : {M : Type 1} → statement M
 classify-access-spec =
     tie.close
     (tie.spec
-    returns
-    in-window-requires
-    rom-force-nonseq-requires
-    returns-2
-    size-bytes-requires
-    wrapping-add-u32-requires
-    returns-3
-    returns-4)
+    (λ c. apart _ _ _ _ (c .if1 .taken))
+    (λ c κs. search needs)
+    (λ c κs. search needs)
+    (λ c. new-block _ _ _ _ (cc) (cc))
+    (λ c κs. search needs)
+    (λ c κs. search needs)
+    (λ c. follows _ _ _ _ (cc) (cc) (cc))
+    (λ c. jumps _ _ _ _ (cc) (cc) _ (c .if3 .left) (cc)))

@@ -1,13 +1,14 @@
--- `waits::rom_half_waits` meets its contract: the two indices are below 3 and 2, and the entry is the definition's. Assumes nothing.
+-- `waits::rom_half_waits` meets its contract: the two indices are below 3 and 2, and the entry is the definition's.
+-- Assumes nothing.
 use Prim.Native.Nat.{_<_}
 use lib.Dec.{lit<}
 use native.Mathlib.Omega.{arith}
-use borrow.Author.Needs.{needs}
 use Rattle.model.specs.Wait.{windowIndex, kindIndex}
 use Rattle.model.specs.declared.RomWindow.{RomWindow}
 use Rattle.model.specs.declared.RomWindow.the-variants.{Ws0, Ws1, Ws2}
 use Rattle.model.specs.declared.AccessKind.{AccessKind}
 use Rattle.model.specs.declared.AccessKind.the-variants.{Nonseq, Seq}
+use borrow.Author.Needs.{needs}
 use Rattle.waits.proofs.rom_half_waits.Statement.{statement}
 use Rattle.waits.proofs.rom_half_waits.Tie as tie
 
@@ -20,31 +21,17 @@ kind-lt : (k : AccessKind) → kindIndex k < 2
 kind-lt Nonseq = lit< tt
 kind-lt Seq = lit< tt
 
-window-index-requires : tie.Need-window-index-requires
-window-index-requires c κs = search needs
-
-kind-index-requires : tie.Need-kind-index-requires
-kind-index-requires c κs = search needs
-
-mul-result : tie.Need-mul-result
-mul-result c = omega (arith, window-lt (c .before .before .args .window))
-
-index-1-result : tie.Need-index-1-result
-index-1-result c = omega (arith, window-lt (c .before .before .args .window))
-
-index-2-result : tie.Need-index-2-result
-index-2-result c = omega (arith, kind-lt (c .before .before .args .kind))
-
-returns : tie.Need-returns
-returns c = cc
+-- where the table is looked up: the arguments
+abbrev entry : tie.After-kind-index → tie.Start
+entry c = c .before .before
 
 pub rom-half-waits-spec : {M : Type 1} → statement M
 rom-half-waits-spec =
     tie.close
     (tie.spec
-    window-index-requires
-    kind-index-requires
-    mul-result
-    index-1-result
-    index-2-result
-    returns)
+    (λ c κs. search needs)
+    (λ c κs. search needs)
+    (λ c. omega (arith, window-lt (entry c .args .window)))
+    (λ c. omega (arith, window-lt (entry c .args .window)))
+    (λ c. omega (arith, kind-lt (entry c .args .kind)))
+    (λ c. cc))

@@ -1,6 +1,7 @@
 -- `records::sheet::field_fault` meets its contract: the row that it reads has the limits of the record's kind. Assumes nothing.
 use mathlib.Core.Path.{_≡_, refl}
 use mathlib.Core.Logic.{⊎-elim}
+use Prim.Native.Nat.{_<_}
 use native.Mathlib.Omega.{arith}
 use lib.Dec.{leb}
 use borrow.Author.Tests.{le-leb, lt-leb}
@@ -10,50 +11,30 @@ use Rattle.records.proofs.KindLimits.{field-test}
 use Rattle.records.proofs.sheet.field_fault.Statement.{statement}
 use Rattle.records.proofs.sheet.field_fault.Tie as tie
 
-cast-k : tie.Need-cast-k
-cast-k c = search needs
+-- the row that is read is one of the table's
+within : (c : tie.Joined1) → c .if1 .k < 10
+within c = ⊎-elim (λ w. omega arith) (λ w. omega arith) (c .if1 .came)
 
-mul-most : tie.Need-mul-most
-mul-most c = ⊎-elim (λ w. omega arith) (λ w. omega arith) (c .before .if1 .came)
+-- where the branches meet, and the start
+abbrev met : tie.After-half → tie.Joined1
+met c = c .before .before .before
 
-element-copy-out-most : tie.Need-element-copy-out-most
-element-copy-out-most c = ⊎-elim (λ w. omega arith) (λ w. omega arith) (c .before .if1 .came)
+abbrev entry : tie.Joined1 → tie.Start
+entry c = c .before .before
 
-half-requires : tie.Need-half-requires
-half-requires c κs = search needs
-
-cast-result : tie.Need-cast-result
-cast-result c = search needs
-
-array-read-result : tie.Need-array-read-result
-array-read-result c = search needs
-
-array-read-result-2 : tie.Need-array-read-result-2
-array-read-result-2 c = search needs
-
-array-read-result-3 : tie.Need-array-read-result-3
-array-read-result-3 c = search needs
+-- the row's place is what the definition's test makes of the kind
+row : (c : tie.Joined1) → (let kind = entry c .args .r .kind in c .if1 .k ≡ (if leb kind 9 then kind else 0))
+row c =
+    ⊎-elim (λ w. simp (le-leb _ _ (w .0 .taken), w .2)) (λ w. simp (lt-leb _ _ (w .0 .left), w .1)) (c .if1 .came)
 
 returns : tie.Need-returns
 returns c =
-    let d = c .before .before .before .before .before in
-    let s = d .before .before in
-    let kind = s .args .r .kind in
-    let place : d .if1 .k ≡ (if leb kind 9 then kind else 0) =
-    ⊎-elim (λ w. simp (le-leb _ _ (w .0 .taken), w .2)) (λ w. simp (lt-leb _ _ (w .0 .left), w .1)) (d .if1 .came)
-    in
-    rw (c .before .before .half .ensures, s .pre, place) (field-test (s .args .r) (omega arith) (omega arith) _ refl)
+    let at-half = c .before .before in
+    let s = entry (met at-half) in
+    rw (at-half .half .ensures, s .pre, row (met at-half)) (field-test (s .args .r) (omega arith) (omega arith) _ refl)
 
 pub field-fault-spec : {M : Type 1} → statement M
 field-fault-spec =
     tie.close
-    (tie.spec
-    cast-k
-    mul-most
-    element-copy-out-most
-    half-requires
-    cast-result
-    array-read-result
-    array-read-result-2
-    array-read-result-3
-    returns)
+    (tie.spec (search needs) (λ c. omega (arith, within (c .before))) (λ c. omega (arith, within (c .before)))
+    (search needs) (search needs) (search needs) (search needs) (search needs) returns)

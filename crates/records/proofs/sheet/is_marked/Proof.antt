@@ -3,18 +3,8 @@ use borrow.Author.Needs.{needs}
 use Rattle.records.proofs.sheet.is_marked.Statement.{statement}
 use Rattle.records.proofs.sheet.is_marked.Tie as tie
 
-byte-at-requires : tie.Need-byte-at-requires
-byte-at-requires c κs = search needs
-
-byte-at-requires-2 : tie.Need-byte-at-requires-2
-byte-at-requires-2 c κs = search needs
-
-byte-at-requires-3 : tie.Need-byte-at-requires-3
-byte-at-requires-3 c κs = search needs
-
 returns : tie.Need-returns
 returns c = simp (c .before .before .byte-at .ensures, c .before .byte-at2 .ensures, c .byte-at3 .ensures)
 
 pub is-marked-spec : {M : Type 1} → statement M
-is-marked-spec =
-    tie.close (tie.spec byte-at-requires byte-at-requires-2 byte-at-requires-3 returns)
+is-marked-spec = tie.close (tie.spec (search needs) (search needs) (search needs) returns)

@@ -1,75 +1,66 @@
--- `records::sheet::step_of` meets its contract: the kind of each arm decides the tests of the definition. Assumes nothing.
+-- `records::sheet::step_of` meets its contract: the tests before each return tell the kind, and of a kind that is known the
+-- definition computes the step. Assumes nothing.
+use mathlib.Core.Path.{refl}
+use native.Mathlib.Omega.{arith}
 use borrow.Author.Needs.{needs}
-use borrow.Author.Tests.{ne-eqb}
 use Rattle.model.specs.Sheet.{stepOf}
+use Rattle.model.specs.declared.SheetRecord.{SheetRecord}
+use Rattle.records.proofs.KindStep.{of-kind, past-kinds}
 use Rattle.records.proofs.sheet.step_of.Statement.{statement}
 use Rattle.records.proofs.sheet.step_of.Tie as tie
 
-access-size-requires : tie.Need-access-size-requires
-access-size-requires c κs = search needs
+-- the record: in the branch of kind 7, in that of the kinds to 2, and past it
+abbrev seven : tie.Then2 → SheetRecord
+seven c = c .before .before .args .r
 
-access-size-requires-2 : tie.Need-access-size-requires-2
-access-size-requires-2 c κs = search needs
+abbrev low : tie.Then3 → SheetRecord
+low c = c .before .before .before .args .r
 
-cast-t7 : tie.Need-cast-t7
-cast-t7 c = search needs
-
-isa-state-requires : tie.Need-isa-state-requires
-isa-state-requires c κs = search needs
+abbrev high : tie.Else3 → SheetRecord
+high c = c .before .before .before .args .r
 
 returns : tie.Need-returns
 unfolding stepOf
-returns c = simp (c .before .match .keys1, c .access-size .ensures)
+returns c = of-kind (c .before .args .r) 4 (omega arith) refl
 
 returns-2 : tie.Need-returns-2
 unfolding stepOf
-returns-2 c = simp (c .before .match .keys2, c .access-size2 .ensures)
+returns-2 c = of-kind (seven (c .before .before)) 7 (omega arith) cc
 
 returns-3 : tie.Need-returns-3
 unfolding stepOf
-returns-3 c = simp (c .before .match .keys3)
+returns-3 c = of-kind (low (c .before .before)) 1 (omega arith) cc
 
 returns-4 : tie.Need-returns-4
 unfolding stepOf
-returns-4 c = simp (c .match .keys4)
+returns-4 c = of-kind (low (c .before .before .before)) 2 (omega arith) cc
 
 returns-5 : tie.Need-returns-5
 unfolding stepOf
-returns-5 c = simp (c .match .keys5)
+returns-5 c = of-kind (low (c .before .before)) 0 (omega arith) refl
 
 returns-6 : tie.Need-returns-6
 unfolding stepOf
-returns-6 c = simp (c .match .keys6)
+returns-6 c = of-kind (high (c .before .before .before)) 3 (omega arith) refl
 
 returns-7 : tie.Need-returns-7
 unfolding stepOf
-returns-7 c = simp (c .before .before .match .keys7, c .before .isa-state .ensures)
+returns-7 c = of-kind (high (c .before .before .before)) 5 (omega arith) refl
 
 returns-8 : tie.Need-returns-8
 unfolding stepOf
-returns-8 c = simp (c .match .keys8)
+returns-8 c = of-kind (high (c .before .before .before)) 6 (omega arith) refl
 
 returns-9 : tie.Need-returns-9
 unfolding stepOf
-returns-9 c =
-    let r = c .match .rest in
-    let q = r .0 .0 .0 .0 in
-    simp (ne-eqb _ _ (r .1), ne-eqb _ _ (r .0 .1), ne-eqb _ _ (r .0 .0 .1), ne-eqb _ _ (r .0 .0 .0 .1), ne-eqb _ _ (q .1), ne-eqb _ _ (q .0 .1), ne-eqb _ _ (q .0 .0 .1), ne-eqb _ _ (q .0 .0 .0 .1))
+returns-9 c = of-kind (high (c .before .before)) 8 (omega arith) refl
+
+returns-10 : tie.Need-returns-10
+unfolding stepOf
+returns-10 c = past-kinds (high (c .before .before)) (omega arith)
 
 pub step-of-spec : {M : Type 1} → statement M
 step-of-spec =
     tie.close
-    (tie.spec
-    access-size-requires
-    access-size-requires-2
-    cast-t7
-    isa-state-requires
-    returns
-    returns-2
-    returns-3
-    returns-4
-    returns-5
-    returns-6
-    returns-7
-    returns-8
-    returns-9)
+    (tie.spec returns (search needs) returns-2 (search needs) returns-3 (search needs) returns-4 returns-5
+    (search needs) returns-6 returns-7 returns-8 returns-9 returns-10)

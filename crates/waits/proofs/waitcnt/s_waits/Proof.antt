@@ -4,13 +4,10 @@ use Rattle.model.specs.Waitcnt.{sWaits}
 use Rattle.waits.proofs.waitcnt.s_waits.Statement.{statement}
 use Rattle.waits.proofs.waitcnt.s_waits.Tie as tie
 
-returns : tie.Need-returns
-unfolding sWaits
-returns c = simp (eq-eqb _ _ (c .if1 .taken))
-
-returns-2 : tie.Need-returns-2
-unfolding sWaits
-returns-2 c = simp (ne-eqb _ _ (c .if1 .left))
-
 pub s-waits-spec : {M : Type 1} → statement M
-s-waits-spec = tie.close (tie.spec returns returns-2)
+unfolding sWaits
+s-waits-spec =
+    tie.close
+    (tie.spec
+    (λ c. simp (eq-eqb _ _ (c .if1 .taken)))
+    (λ c. simp (ne-eqb _ _ (c .if1 .left))))

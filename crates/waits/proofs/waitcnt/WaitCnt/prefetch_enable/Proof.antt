@@ -4,9 +4,9 @@ use Rattle.model.specs.Waitcnt.{prefetchEnable}
 use Rattle.waits.proofs.waitcnt.WaitCnt.prefetch_enable.Statement.{statement}
 use Rattle.waits.proofs.waitcnt.WaitCnt.prefetch_enable.Tie as tie
 
-returns : tie.Need-returns
-unfolding prefetchEnable
-returns c = refl
-
 pub prefetch-enable-spec : {M : Type 1} → statement M
-prefetch-enable-spec = tie.close (tie.spec returns)
+unfolding prefetchEnable
+prefetch-enable-spec =
+    tie.close
+    (tie.spec
+    (λ c. refl))
