@@ -31,7 +31,7 @@ fn run_accepted(
     requires { ⌜ verdict (lending (now sheet) (now board) (now store) (now bios) (now rom) (now answers) lengths) ≡ Accepted ⌝ }
     ensures { λ r. ⌜ reported r (now (board .exit)) (now (store .exit)) (now (answers .exit))
         ≡ outcomeBy (lending (now (sheet .entry)) (now (board .entry)) (now (store .entry)) (now (bios .entry))
-            (now (rom .entry)) (now (answers .entry)) lengths) Accepted ⌝ }
+        (now (rom .entry)) (now (answers .entry)) lengths) Accepted ⌝ }
 {
     let n = sheet::record_count(sheet);
     let clock = board::load_clock(board);
@@ -77,8 +77,8 @@ pub extern "C" fn bts_run(
 ) -> Report
     ensures { λ r. ⌜ reported r (now (board .exit)) (now (store .exit)) (now (answers .exit))
         ≡ outcome (lending (now (sheet .entry)) (now (board .entry)) (now (store .entry)) (now (bios .entry))
-            (now (rom .entry)) (now (answers .entry))
-            (record { ewram = ewram; iwram = iwram; io = io; palette = palette; vram = vram; oam = oam; sram = sram })) ⌝ }
+        (now (rom .entry)) (now (answers .entry))
+        (record { ewram = ewram; iwram = iwram; io = io; palette = palette; vram = vram; oam = oam; sram = sram })) ⌝ }
 {
     let lengths = Lengths {
         ewram,

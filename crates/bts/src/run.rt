@@ -59,7 +59,17 @@ pub fn run_core(
     let mut k: usize = 0;
     while k < n {
         let step = step_of(record_at(sheet, k));
-        let taken = take_step(current, held, waits, halves, step, store, bios, rom, lengths);
+        let taken = take_step(
+            current,
+            held,
+            waits,
+            halves,
+            step,
+            store,
+            bios,
+            rom,
+            lengths,
+        );
         let answer = taken.answer;
         let at = ANSWER_LENGTH * k;
         put_answer(&mut answers[at..at + ANSWER_LENGTH], answer);

@@ -1,11 +1,13 @@
 // figures: runs the worked figures that are not theorems, those of document 01 and those in the comments of the Rust, and writes
 // what the run answers. The file `stdout` beside src/ has what they must be.
 use libc::STDOUT_FILENO;
-ghost use Prim.Native.Nat.{_+_, _*_, _≤_, _<_};
-ghost use mathlib.Core.Path.{_≡_};
-ghost use lib.ListN.{length};
+use model::ANSWER_LENGTH;
+use model::BOARD_LENGTH;
+use model::HEADER_LENGTH;
+use model::RECORD_LENGTH;
+ghost use Prim.Native.Nat.{_+_, _≤_, _<_};
 
-// A figure has up to three records, each of kind, size, address and value.
+// A figure has four records, each of kind, size, address and value.
 struct Row {
     kind: u8,
     size: u8,
@@ -37,6 +39,33 @@ fn waitcnt(value: u32) -> Row {
         size: 0,
         address: 0,
         value,
+    }
+}
+
+fn idle(value: u32) -> Row {
+    Row {
+        kind: 4,
+        size: 0,
+        address: 0,
+        value,
+    }
+}
+
+fn fetch(address: u32) -> Row {
+    Row {
+        kind: 5,
+        size: 0,
+        address,
+        value: 0,
+    }
+}
+
+fn restart(address: u32) -> Row {
+    Row {
+        kind: 6,
+        size: 0,
+        address,
+        value: 0,
     }
 }
 
@@ -73,9 +102,14 @@ fn low(v: u32) -> u8 {
     (v % 256) as u8
 }
 
+// The longest sheet of a figure, and its answers.
+const SHEET_LENGTH: usize = HEADER_LENGTH + RECORD_LENGTH * 4;
+
+const ANSWERS_LENGTH: usize = ANSWER_LENGTH * 4;
+
 // The sheet with a row's record at a place.
-fn with_row(sheet: [u8; 44], at: usize, r: Row) -> [u8; 44]
-    requires { ⌜ at + 12 ≤ 44 ⌝ }
+fn with_row(sheet: [u8; SHEET_LENGTH], at: usize, r: Row) -> [u8; SHEET_LENGTH]
+    requires { ⌜ at + 12 ≤ 56 ⌝ }
 {
     let mut s = sheet;
     s[at] = r.kind;
@@ -91,17 +125,28 @@ fn with_row(sheet: [u8; 44], at: usize, r: Row) -> [u8; 44]
     s
 }
 
-// The sheet of three rows.
-fn sheet_of(a: Row, b: Row, c: Row) -> [u8; 44] {
-    let mut s = [0u8; 44];
+// The sheet of four rows.
+fn sheet_of(a: Row, b: Row, c: Row, d: Row) -> [u8; SHEET_LENGTH] {
+    let mut s = [0u8; SHEET_LENGTH];
     s[0] = 0x42;
     s[1] = 0x54;
     s[2] = 0x53;
     s[3] = 1;
-    s[6] = 3;
+    s[6] = 4;
     let one = with_row(s, 8, a);
     let two = with_row(one, 20, b);
-    with_row(two, 32, c)
+    let three = with_row(two, 32, c);
+    with_row(three, 44, d)
+}
+
+// A cartridge whose first opcodes stand at 0x100.
+fn cartridge() -> [u8; 512] {
+    let mut rom = [0u8; 512];
+    rom[0x100] = 0x34;
+    rom[0x101] = 0x12;
+    rom[0x102] = 0x78;
+    rom[0x103] = 0x56;
+    rom
 }
 
 fn column(n: u32) {
@@ -109,26 +154,42 @@ fn column(n: u32) {
     io::print_decimal(STDOUT_FILENO, n as u64);
 }
 
-// Cycles and value of the answer at a place.
-fn print_answer(answers: &[u8; 36], at: usize)
-    requires { ⌜ at + 8 ≤ 36 ⌝ }
+// Cycles and value of answer k.
+fn print_answer(answers: &[u8; ANSWERS_LENGTH], k: usize)
+    requires { ⌜ k < 4 ⌝ }
 {
-    column(le::read32(answers, at + 4));
-    column(le::read32(answers, at));
+    let at = ANSWER_LENGTH * k;
+    column(le::word_at(answers, at + 4));
+    column(le::word_at(answers, at));
 }
 
-// Three records on a fresh board over zeroed memories of their physical sizes, but for an SRAM of 32,768 bytes.
-fn show(title: &[u8], a: Row, b: Row, c: Row) {
-    let sheet = sheet_of(a, b, c);
-    let mut board = [0u8; 72];
+// Its hits and the prefetch count.
+fn print_buffer(answers: &[u8; ANSWERS_LENGTH], k: usize)
+    requires { ⌜ k < 4 ⌝ }
+{
+    let at = ANSWER_LENGTH * k;
+    column(le::byte_at(answers, at + 8) as u32);
+    column(le::byte_at(answers, at + 9) as u32);
+}
+
+// What a run of a figure gives.
+struct Given {
+    number: u32,
+    answers: [u8; ANSWERS_LENGTH],
+}
+
+// On a fresh board over zeroed memories of their physical sizes, but for an SRAM of 32,768 bytes.
+fn run(sheet: &[u8]) -> Given {
+    let mut board = [0u8; BOARD_LENGTH];
     let mut store = [0u8; 430084];
-    let mut answers = [0u8; 36];
+    let mut answers = [0u8; ANSWERS_LENGTH];
+    let rom = cartridge();
     let r = bts::bts_run(
-        &sheet,
+        sheet,
         &mut board,
         &mut store,
         b"",
-        b"",
+        &rom,
         &mut answers,
         262144,
         32768,
@@ -138,12 +199,41 @@ fn show(title: &[u8], a: Row, b: Row, c: Row) {
         1024,
         32768,
     );
+    Given {
+        number: r.number,
+        answers,
+    }
+}
+
+fn print_title(title: &[u8]) {
     io::write_all(STDOUT_FILENO, title);
     io::write_all(STDOUT_FILENO, b":");
+}
+
+// Cycles and value of three records, and the run's number. The fourth record is an IDLE 0.
+fn show(title: &[u8], a: Row, b: Row, c: Row) {
+    let sheet = sheet_of(a, b, c, idle(0));
+    let given = run(&sheet);
+    let answers = given.answers;
+    print_title(title);
     print_answer(&answers, 0);
-    print_answer(&answers, 12);
-    print_answer(&answers, 24);
-    column(r.number);
+    print_answer(&answers, 1);
+    print_answer(&answers, 2);
+    column(given.number);
+    io::write_all(STDOUT_FILENO, b"\n");
+}
+
+// Two records behind WAITCNT 0x4000 and RESTART 0x08000100: cycles, value, hits and prefetch count of each, and the run's number.
+fn show_buffer(title: &[u8], c: Row, d: Row) {
+    let sheet = sheet_of(waitcnt(0x4000), restart(0x0800_0100), c, d);
+    let given = run(&sheet);
+    let answers = given.answers;
+    print_title(title);
+    print_answer(&answers, 2);
+    print_buffer(&answers, 2);
+    print_answer(&answers, 3);
+    print_buffer(&answers, 3);
+    column(given.number);
     io::write_all(STDOUT_FILENO, b"\n");
 }
 
@@ -305,6 +395,62 @@ fn latch_and_video() {
     );
 }
 
+// Which byte stores to VRAM fill their halfword, by the display mode.
+fn video_modes() {
+    show(
+        b"VRAM in mode 0: objects from 0x10000",
+        write(1, 0x0600_FFFF, 0x5A),
+        write(1, 0x0601_0000, 0x5A),
+        read(4, 0x0600_FFFE),
+    );
+    show(
+        b"VRAM in mode 3: background up to 0x13FFF",
+        write(1, 0x0400_0000, 3),
+        write(1, 0x0601_3FFF, 0x5A),
+        read(2, 0x0601_3FFE),
+    );
+    show(
+        b"VRAM in mode 3: objects from 0x14000",
+        write(1, 0x0400_0000, 3),
+        write(1, 0x0601_4000, 0x5A),
+        read(2, 0x0601_4000),
+    );
+}
+
+// What FETCH, RESTART and IDLE do to the prefetch buffer.
+fn buffer() {
+    show_buffer(
+        b"Seven halfwords in 27 cycles; a hit takes the head",
+        idle(27),
+        fetch(0x0800_0100),
+    );
+    show_buffer(
+        b"Eight in 28; a fetch elsewhere drains",
+        idle(28),
+        fetch(0x0800_0200),
+    );
+    show_buffer(
+        b"A fetch while none stands drains nothing",
+        fetch(0x0800_0200),
+        idle(27),
+    );
+    show_buffer(
+        b"Two nonsequential beats after a restart: 5 and 10",
+        idle(9),
+        idle(1),
+    );
+    show_buffer(
+        b"A restart outside ROM leaves it drained",
+        restart(0x0300_0000),
+        idle(100),
+    );
+    show_buffer(
+        b"Thumb from the buffer: 1",
+        idle(10),
+        instruction(2, 0x0800_0100, 0x1C00),
+    );
+}
+
 // Where a load and a store go.
 fn places() {
     show(
@@ -331,6 +477,18 @@ fn places() {
         read(4, 0x0DFF_FFFE),
         read(2, 0x0DFF_FFFF),
     );
+    show(
+        b"The ROM in three windows",
+        read(2, 0x0800_0100),
+        read(2, 0x0A00_0100),
+        read(2, 0x0C00_0100),
+    );
+    show(
+        b"Page 0x0F is SRAM too",
+        write(1, 0x0E00_0003, 0x5A),
+        read(1, 0x0F00_0003),
+        read(4, 0x0F00_0003),
+    );
 }
 
 // Prices of opcodes, and their idle cycles.
@@ -346,6 +504,18 @@ fn instructions() {
         instruction(4, 0x0300_0000, 0xE591_0000),
         instruction(4, 0x0300_0000, 0xE1A0_0211),
         instruction(4, 0x0300_0000, 0xE1A0_0000),
+    );
+    show(
+        b"Thumb internal cycle: LDR by register, pc and sp",
+        instruction(2, 0x0300_0000, 0x6800),
+        instruction(2, 0x0300_0000, 0x4800),
+        instruction(2, 0x0300_0000, 0x9800),
+    );
+    show(
+        b"Thumb internal cycle: LDMIA, 0xBA01; none: ADD",
+        instruction(2, 0x0300_0000, 0xC801),
+        instruction(2, 0x0300_0000, 0xBA01),
+        instruction(2, 0x0300_0000, 0x1C00),
     );
     show(
         b"The block rule takes the address as given",
@@ -367,6 +537,8 @@ fn main() {
     wait_fields();
     mirrors();
     latch_and_video();
+    video_modes();
     places();
     instructions();
+    buffer();
 }
