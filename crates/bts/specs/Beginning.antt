@@ -1,5 +1,5 @@
--- A beginning of a sheet: its first k records, run by themselves. The loop's contract and its invariant are about one, so that a run
--- that stops early is no other claim than a run of the whole sheet.
+-- A beginning of a sheet: its first k records, run by themselves. The loop's contract and its invariant are about one, so that
+-- a run that stops early is no other claim than a run of the whole sheet.
 use mathlib.Core.Path.{_≡_, refl, sym, ap, ap₂, _∙_}
 use mathlib.Core.List.{List, [], _∷_, _++_, map, append-assoc, append-nil, map-append}
 use Prim.Native.Nat.{ℕ, zero, suc, _+_, _*_, _≤_, _<_}
@@ -32,7 +32,8 @@ abbrev pub ranTo : Media → State → List ℕ → ℕ → Result
 ranTo m s sheet k = run m s (map stepOf (recordsFrom sheet 0 k))
 
 -- from the state `s₀`, with `lent` where the answers go: the state after k records, their answers written, and their cycles
-pub record Beginning (m : Media) (s₀ : State) (sheet lent : List ℕ) (k : ℕ) (s : State) (answers : List ℕ) (cycles : ℕ) : Type 0 where
+pub record Beginning (m : Media) (s₀ : State) (sheet lent : List ℕ) (k : ℕ) (s : State) (answers : List ℕ) (cycles : ℕ)
+    : Type 0 where
   pub state : s ≡ (ranTo m s₀ sheet k) .state
   pub written : answers ≡ answersBytes ((ranTo m s₀ sheet k) .answers) ++ drop (answerLength * k) lent
   pub summed : cycles ≡ total (ranTo m s₀ sheet k)
@@ -48,7 +49,8 @@ pub record Runs (c : Clock) (l : Lengths) (n : ℕ) (sheet store answers : List 
   pub whole : lengthsSum l ≡ length store
 
 -- what it promises: the beginning of as many steps as it tells, which are all n
-pub record Ends (m : Media) (s₀ : State) (sheet : List ℕ) (n : ℕ) (lent : List ℕ) (r : Done) (halves store answers : List ℕ) : Type 0 where
+pub record Ends (m : Media) (s₀ : State) (sheet : List ℕ) (n : ℕ) (lent : List ℕ) (r : Done) (halves store answers : List ℕ)
+    : Type 0 where
   pub beginning : Beginning m s₀ sheet lent (r .steps) (stateFrom (r .clock) halves (r .contents) store) answers (r .total)
   pub all : r .steps ≡ n
 
@@ -80,7 +82,8 @@ ran-further m s sheet k =
 answers-snoc : (xs : List Answer) (x : Answer) → answersBytes (xs ++ x ∷ []) ≡ answersBytes xs ++ answerBytes x
 answers-snoc [] x = append-nil (answerBytes x)
 answers-snoc (y ∷ xs) x =
-    ap (λ (t : List ℕ). answerBytes y ++ t) (answers-snoc xs x) ∙ sym (append-assoc (answerBytes y) (answersBytes xs) (answerBytes x))
+    ap (λ (t : List ℕ). answerBytes y ++ t) (answers-snoc xs x)
+    ∙ sym (append-assoc (answerBytes y) (answersBytes xs) (answerBytes x))
 
 cycles-snoc : (xs : List Answer) (x : Answer)
     → sum (map (λ (y : Answer). y .cycles) (xs ++ x ∷ [])) ≡ sum (map (λ (y : Answer). y .cycles) xs) + x .cycles
@@ -140,8 +143,10 @@ module _ (m : Media) (s₀ : State) (sheet lent : List ℕ) where
         state = et ∙ ap (λ (u : State). stepped m u x) (b .state) ∙ sym (ap (λ (r : Result). r .state) more);
         written =
             el
-            ∙ ap₂ (λ (l : List ℕ) (u : State). putMid (answerLength * k) answerLength l (answerBytes (answer m u x))) (b .written) (b .state)
-            ∙ place (answersBytes (before .answers)) (drop (answerLength * k) lent) (answerBytes a) (answerLength * k) (done-size k)
+            ∙ ap₂ (λ (l : List ℕ) (u : State). putMid (answerLength * k) answerLength l (answerBytes (answer m u x)))
+            (b .written) (b .state)
+            ∙ place (answersBytes (before .answers)) (drop (answerLength * k) lent) (answerBytes a) (answerLength * k)
+            (done-size k)
             ∙ ap₂ (λ (l r : List ℕ). l ++ r)
             (sym (answers-snoc (before .answers) a) ∙ ap answersBytes (sym (ap (λ (r : Result). r .answers) more)))
             (drop-drop answerLength (answerLength * k) lent ∙ ap (λ (j : ℕ). drop j lent) next);
@@ -161,8 +166,8 @@ pub record Going (m : Media) (s₀ : State) (sheet : List ℕ) (n : ℕ) (lent :
   pub ready : Runnable (s .board .clock) waits (m .lengths) (s .store)
 
 module _ {m : Media} {s₀ : State} {sheet lent : List ℕ} {n : ℕ} where
-  pub begin : {waits : Waits} → Runs (s₀ .board .clock) (m .lengths) n sheet (s₀ .store) lent → waits ≡ romWaits (s₀ .board .clock .waitcnt)
-      → Going m s₀ sheet n lent waits s₀ lent 0 0
+  pub begin : {waits : Waits} → Runs (s₀ .board .clock) (m .lengths) n sheet (s₀ .store) lent
+      → waits ≡ romWaits (s₀ .board .clock .waitcnt) → Going m s₀ sheet n lent waits s₀ lent 0 0
   begin r w =
       record {
         beginning = nothing m s₀ sheet lent;
@@ -171,9 +176,11 @@ module _ {m : Media} {s₀ : State} {sheet lent : List ℕ} {n : ℕ} where
         ready = record { sound = r .sound; waits = w; whole = r .whole };
       }
 
-  -- record k, whose step is `x`, is done: the step's own promise, its answer in its place, and the waits of the register as it is now
-  module _ {k : ℕ} {s : State} {waits : Waits} {answers : List ℕ} {cycles : ℕ} (g : Going m s₀ sheet n lent waits s answers cycles k)
-      {x : Step} (record-k : x ≡ stepOf (recordAt sheet k)) {r : Stepped} {halves store : List ℕ} (step : Steps m s x r halves store) where
+  -- record k, whose step is `x`, is done: the step's own promise, its answer in its place, and the waits of the register as it
+  -- is now
+  module _ {k : ℕ} {s : State} {waits : Waits} {answers : List ℕ} {cycles : ℕ}
+      (g : Going m s₀ sheet n lent waits s answers cycles k) {x : Step} (record-k : x ≡ stepOf (recordAt sheet k))
+      {r : Stepped} {halves store : List ℕ} (step : Steps m s x r halves store) where
     -- the store keeps its length
     pub same-size : length store ≡ length (s .store)
     unfolding run

@@ -1,5 +1,5 @@
--- What a reader gets who trusts only the exported function: demands 1 and 3, of the outcome of any call of `bts_run`. Its contract
--- says of a call that was lent `i` and left `o` that `o ≡ outcome i`; everything here follows from that equation.
+-- What a reader gets who trusts only the exported function: demands 1 and 3, of the outcome of any call of `bts_run`. Its
+-- contract says of a call that was lent `i` and left `o` that `o ≡ outcome i`; everything here follows from that equation.
 use mathlib.Core.Path.{_≡_, refl}
 use mathlib.Core.Logic.{_≢_}
 use mathlib.Core.Bool.{true}

@@ -39,8 +39,8 @@ accepted i s r board answers b e n k x =
     }
 
 -- the same, from the board's parts as they were read
-module _ (i : Lent) (n : ℕ) (c : Clock) (h : List ℕ) (d : Contents) (en : n ≡ recordCount (i .sheet)) (ec : c ≡ clockOf (i .board))
-    (eh : h ≡ halvesFrom (i .board) 20 8) (ed : d ≡ contentsOf (i .board)) where
+module _ (i : Lent) (n : ℕ) (c : Clock) (h : List ℕ) (d : Contents) (en : n ≡ recordCount (i .sheet))
+    (ec : c ≡ clockOf (i .board)) (eh : h ≡ halvesFrom (i .board) 20 8) (ed : d ≡ contentsOf (i .board)) where
   pub accepted-from : (r : Report) (done : Done) (halves store board answers : List ℕ)
       → Ends (mediaOf i) (stateFrom c h d (i .store)) (i .sheet) n (i .answers) done halves store answers
       → board ≡ boardBytes (record { clock = done .clock; halves = halves; contents = done .contents })
@@ -48,7 +48,8 @@ module _ (i : Lent) (n : ℕ) (c : Clock) (h : List ℕ) (d : Contents) (en : n 
       → reported r board store answers ≡ outcomeBy i Accepted
   accepted-from r done halves store board answers e eb er =
       ap (λ (x : Report). reported x board store answers) er
-      ∙ accepted i (stateFrom (done .clock) halves (done .contents) store) (record { number = 0; index = n; total = done .total }) board answers
+      ∙ accepted i (stateFrom (done .clock) halves (done .contents) store)
+      (record { number = 0; index = n; total = done .total }) board answers
       (rw (e .all, en, ec, eh, ed) at (e .beginning)) eb refl en
 
 -- a report of a refusal, with the buffers as they were lent, is the refused outcome

@@ -1,5 +1,5 @@
--- The examination in parts, as laws: a part that refuses decides the verdict, one that accepts leaves it to the rest; and what an accepted
--- sheet's tests say of its numbers.
+-- The examination in parts, as laws: a part that refuses decides the verdict, one that accepts leaves it to the rest; and
+-- what an accepted sheet's tests say of its numbers.
 use mathlib.Core.Path.{_≡_, refl, sym, ap, _∙_}
 use mathlib.Core.Bool.{Bool, true, false, not, _&&_}
 use mathlib.Core.List.{List, _++_}
@@ -23,7 +23,8 @@ use Rattle.model.specs.Laws.Refusal.{NoFault, FirstFault, Acceptable, accepted-
 use Rattle.model.specs.Laws.Fits.{sound-clock}
 use Rattle.model.specs.declared.Lengths.{Lengths}
 use Rattle.model.specs.declared.Refusal.{Refusal}
-use Rattle.model.specs.declared.Refusal.the-variants.{BadMark, BadVersion, BadShape, BadLengths, UnsoundBoard, ShortAnswers, FaultyRecord}
+use Rattle.model.specs.declared.Refusal.the-variants.{BadMark, BadVersion, BadShape, BadLengths}
+use Rattle.model.specs.declared.Refusal.the-variants.{UnsoundBoard, ShortAnswers, FaultyRecord}
 use Rattle.model.specs.declared.Verdict.{Verdict}
 use Rattle.model.specs.declared.Verdict.the-variants.{Accepted, Refused}
 use Rattle.examine.specs.Lent.{lending}
@@ -58,7 +59,8 @@ pub faulted : (s : List ℕ) {n k : ℕ} → n ≡ recordCount s → k ≡ least
     → Refused (FaultyRecord k) ≡ firstRow (recordsRows s)
 faulted s en ek h =
     let found = ek ∙ ap (λ (j : ℕ). leastFaulty (recordsFrom s 0 j)) en in
-    ap (λ (j : ℕ). Refused (FaultyRecord j)) found ∙ sym (row-holds _ _ (lt-ltb (faultIndex s) (recordCount s) (omega (arith, found, en))))
+    ap (λ (j : ℕ). Refused (FaultyRecord j)) found
+    ∙ sym (row-holds _ _ (lt-ltb (faultIndex s) (recordCount s) (omega (arith, found, en))))
 
 pub faultless : (s : List ℕ) {n k : ℕ} → n ≡ recordCount s → k ≡ leastFaulty (recordsFrom s 0 n) → n ≤ k
     → Accepted ≡ firstRow (recordsRows s)
@@ -85,7 +87,8 @@ pub too-long : (l : Lengths) (store bios rom : ℕ) → not (sizesSmall l bios r
 unfolding sizesFit
 too-long l store bios rom e = sym (ap (λ (t : Bool). t && eqb (lengthsSum l) store) (not-true (sizesSmall l bios rom) e))
 
-pub long-enough : (l : Lengths) (store bios rom n : ℕ) → not (sizesSmall l bios rom) ≡ false → n ≡ lengthsSum l → eqb n store ≡ sizesFit l store bios rom
+pub long-enough : (l : Lengths) (store bios rom n : ℕ) → not (sizesSmall l bios rom) ≡ false
+    → n ≡ lengthsSum l → eqb n store ≡ sizesFit l store bios rom
 unfolding sizesFit
 long-enough l store bios rom n e h =
     ap (λ (k : ℕ). eqb k store) h ∙ sym (ap (λ (t : Bool). t && eqb (lengthsSum l) store) (not-false (sizesSmall l bios rom) e))

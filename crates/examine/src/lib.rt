@@ -108,7 +108,8 @@ pub fn examine(
     answers: &[u8],
     lengths: Lengths,
 ) -> Verdict
-    ensures { λ r. ⌜ Examined (now (sheet .entry)) (now (board .entry)) (now (store .entry)) (now (bios .entry)) (now (rom .entry)) (now (answers .entry)) lengths r ⌝ }
+    ensures { λ r. ⌜ Examined (now (sheet .entry)) (now (board .entry)) (now (store .entry))
+        (now (bios .entry)) (now (rom .entry)) (now (answers .entry)) lengths r ⌝ }
 {
     let shape = examine_sheet(sheet);
     let Verdict::Accepted = shape else {

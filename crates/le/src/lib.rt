@@ -2,7 +2,7 @@
 // bytes it reads 0. The readers and writers of fixed width leave the lengths to their callers, who test them once.
 ghost use mathlib.Core.Path.{_≡_};
 ghost use mathlib.Core.List.{_++_};
-ghost use Prim.Native.Nat.{_+_, _*_, _≤_};
+ghost use Prim.Native.Nat.{_+_, _*_, _≤_, _<_};
 ghost use lib.ListN.{length};
 ghost use Rattle.model.specs.Base as def;
 
@@ -63,6 +63,21 @@ pub fn read64(s: &[u8], at: usize) -> u64
     ensures { λ r. ⌜ r ≡ def.number 8 (now (s .entry)) at ⌝ }
 {
     read32(s, at) as u64 + 0x1_0000_0000 * read32(s, at + 4) as u64
+}
+
+// ---- a byte of a number
+
+// Byte `k` of a number: what rotating it right by 8 * k brings lowest.
+pub fn lane(value: u32, k: u32) -> u8
+    requires { ⌜ k < 4 ⌝ }
+    ensures { λ r. ⌜ r ≡ def.byteOf k value ⌝ }
+{
+    match k {
+        0 => (value % 256) as u8,
+        1 => (value / 0x100 % 256) as u8,
+        2 => (value / 0x1_0000 % 256) as u8,
+        _ => (value / 0x100_0000 % 256) as u8,
+    }
 }
 
 // ---- written

@@ -1,5 +1,5 @@
--- What the arms and branches of the loads have in common: a callee's answer and the branch taken decide a test of the definitions.
--- Assumes nothing.
+-- What the arms and branches of the loads have in common: a callee's answer and the branch taken decide a test of the
+-- definitions. Assumes nothing.
 use mathlib.Core.Path.{_≡_, refl, sym, ap, ap₂, _∙_}
 use mathlib.Core.List.{List}
 use mathlib.Core.Bool.{Bool, true, false}

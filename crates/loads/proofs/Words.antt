@@ -1,5 +1,5 @@
--- A word that stands in one memory: its number by the part that was lent, its low bytes by their mask, and the aligned load that they
--- are. Assumes nothing.
+-- A word that stands in one memory: its number by the part that was lent, its low bytes by their mask, and the aligned load
+-- that they are. Assumes nothing.
 use mathlib.Core.Path.{_≡_, refl, _∙_, ap, sym}
 use mathlib.Core.Bool.{false, false≢true}
 use mathlib.Core.List.{List}

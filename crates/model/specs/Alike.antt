@@ -1,5 +1,5 @@
--- What demand 3 says: two sheets and two boards that are alike, the answers that every accepted run gives, the limits of its total, and
--- the columns that two such runs agree in. The claim is stated once, over outcomes.
+-- What demand 3 says: two sheets and two boards that are alike, the answers that every accepted run gives, the limits of its
+-- total, and the columns that two such runs agree in. The claim is stated once, over outcomes.
 -- From document 01, "Demand 3".
 use mathlib.Core.Path.{_≡_}
 use mathlib.Core.Logic.{_≢_}
@@ -82,7 +82,8 @@ cyclesFrom b k (suc n) = number 4 b (answerStart k + 4) ∷ cyclesFrom b (suc k)
 -- what every accepted run has by itself
 pub record Accounts (i : Lent) (o : Outcome) : Type 0 where
   -- the 12 bytes of each answer, and the numbers in them
-  pub bytes : (k : ℕ) → k < recordCount (i .sheet) → take answerLength (drop (answerStart k) (o .answers)) ≡ answerBytes (answerAt i k)
+  pub bytes : (k : ℕ) → k < recordCount (i .sheet)
+      → take answerLength (drop (answerStart k) (o .answers)) ≡ answerBytes (answerAt i k)
   pub fields : LentBytes i → (k : ℕ) → k < recordCount (i .sheet) → ReadBack (o .answers) k (answerAt i k)
   -- the total is the sum of the cycles in the answers
   pub summed : LentBytes i → o .total ≡ sum (cyclesFrom (o .answers) 0 (recordCount (i .sheet)))

@@ -1,3 +1,4 @@
+-- What the machine does, as definitions; then the laws that they obey.
 pub mod Base
 pub mod Region
 pub mod Mirror

@@ -1,5 +1,6 @@
 -- Loads of 1, 2 and 4 bytes over the lent memories.
--- From GBATEK, "GBA Memory Map" and "GBA Unpredictable Things"; src/bus/mod.rs (`Bus as CpuMem`) and openbus.rs; document 01, "mod.rs".
+-- From GBATEK, "GBA Memory Map" and "GBA Unpredictable Things"; src/bus/mod.rs (`Bus as CpuMem`) and openbus.rs; document 01,
+-- "mod.rs".
 use mathlib.Core.List.{List}
 use Prim.Native.Nat.{ℕ, _+_, _*_, _%_}
 use lib.Dec.{eqb, ltb}

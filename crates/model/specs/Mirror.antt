@@ -1,5 +1,6 @@
 -- The place of an address in its memory.
--- From GBATEK, "GBA Memory Map" and "GBA Unpredictable Things" (mirrors); src/bus/mirror.rs; document 01, "Offsets as in mirror.rs".
+-- From GBATEK, "GBA Memory Map" and "GBA Unpredictable Things" (mirrors); src/bus/mirror.rs; document 01,
+-- "Offsets as in mirror.rs".
 use mathlib.Core.Bool.{not, _&&_}
 use Prim.Native.Nat.{ℕ, _+_, _-_, _%_}
 use lib.Dec.{eqb, ltb, leb}

@@ -13,7 +13,8 @@ use Rattle.model.specs.Sheet.{sheetVersion, isMarked, versionOf, isShape
 use Rattle.model.specs.BoardBytes.{answerLength, boardOf, boardBytes, sound, answersBytes}
 use Rattle.model.specs.declared.Lengths.{Lengths}
 use Rattle.model.specs.declared.Refusal.{Refusal}
-use Rattle.model.specs.declared.Refusal.the-variants.{BadMark, BadVersion, BadShape, BadLengths, UnsoundBoard, ShortAnswers, FaultyRecord}
+use Rattle.model.specs.declared.Refusal.the-variants.{BadMark, BadVersion, BadShape, BadLengths}
+use Rattle.model.specs.declared.Refusal.the-variants.{UnsoundBoard, ShortAnswers, FaultyRecord}
 use Rattle.model.specs.declared.Verdict.{Verdict}
 use Rattle.model.specs.declared.Verdict.the-variants.{Accepted, Refused}
 
@@ -146,7 +147,14 @@ ran i = run (mediaOf i) (firstState i) (stepsOf (i .sheet))
 -- a refusal leaves all as lent; an accepted run writes board, store and an answer for each record
 abbrev pub outcomeBy : Lent → Verdict → Outcome
 outcomeBy i (Refused r) =
-    record { number = refusalNumber r; index = refusalIndex r; total = 0; board = i .board; store = i .store; answers = i .answers }
+    record {
+      number = refusalNumber r;
+      index = refusalIndex r;
+      total = 0;
+      board = i .board;
+      store = i .store;
+      answers = i .answers;
+    }
 outcomeBy i Accepted =
     record {
       number = 0;

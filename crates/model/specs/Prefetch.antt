@@ -1,4 +1,5 @@
--- The Game Pak prefetch buffer, one idle cycle at a time. Nothing here depends on what the ROM holds but the halfwords (`filled`).
+-- The Game Pak prefetch buffer, one idle cycle at a time. Nothing here depends on what the ROM holds but the halfwords
+-- (`filled`).
 -- From GBATEK, "GBA GamePak Prefetch"; src/bus/prefetch.rs; document 01, "prefetch.rs".
 use mathlib.Core.Bool.{Bool, true, false, not, _&&_}
 use mathlib.Core.List.{List}
@@ -20,7 +21,16 @@ capacity = 8
 -- nothing in it and no beat in flight, with the switch as given
 abbrev pub emptied : Bool → PrefetchBuffer
 emptied on =
-    record { head = 0; count = 0; «next_addr» = 0; «wait_left» = 0; «head_addr» = 0; enabled = on; filling = false; «first_beat» = false }
+    record {
+      head = 0;
+      count = 0;
+      «next_addr» = 0;
+      «wait_left» = 0;
+      «head_addr» = 0;
+      enabled = on;
+      filling = false;
+      «first_beat» = false;
+    }
 
 abbrev pub newBuffer : PrefetchBuffer
 newBuffer = emptied false
@@ -31,7 +41,16 @@ drained p = emptied (p .enabled)
 -- the switch, WAITCNT bit 14: to turn it off drains
 unfoldable pub setEnabled : Bool → PrefetchBuffer → PrefetchBuffer
 setEnabled true p =
-    record { head = p .head; count = p .count; «next_addr» = p .«next_addr»; «wait_left» = p .«wait_left»; «head_addr» = p .«head_addr»; enabled = true; filling = p .filling; «first_beat» = p .«first_beat» }
+    record {
+      head = p .head;
+      count = p .count;
+      «next_addr» = p .«next_addr»;
+      «wait_left» = p .«wait_left»;
+      «head_addr» = p .«head_addr»;
+      enabled = true;
+      filling = p .filling;
+      «first_beat» = p .«first_beat»;
+    }
 setEnabled false p = if p .enabled then emptied false else p
 
 -- ---- beats: a beat fetches one halfword from ROM
@@ -39,7 +58,16 @@ setEnabled false p = if p .enabled then emptied false else p
 -- a restart drains and puts a first beat in flight; without a window it leaves the buffer drained
 abbrev pub restartIn : Waits → PrefetchBuffer → ℕ → Windowed → PrefetchBuffer
 restartIn t p a (In win) =
-    record { head = 0; count = 0; «next_addr» = lowered 2 a; «wait_left» = romHalfCycles t win Nonseq; «head_addr» = 0; enabled = p .enabled; filling = true; «first_beat» = true }
+    record {
+      head = 0;
+      count = 0;
+      «next_addr» = lowered 2 a;
+      «wait_left» = romHalfCycles t win Nonseq;
+      «head_addr» = 0;
+      enabled = p .enabled;
+      filling = true;
+      «first_beat» = true;
+    }
 restartIn t p a Outside = drained p
 
 unfoldable pub restart : Waits → PrefetchBuffer → ℕ → PrefetchBuffer
@@ -61,7 +89,16 @@ beatIn t p (In win) =
       «first_beat» = false;
     }
 beatIn t p Outside =
-    record { head = p .head; count = p .count; «next_addr» = p .«next_addr»; «wait_left» = p .«wait_left»; «head_addr» = p .«head_addr»; enabled = p .enabled; filling = false; «first_beat» = p .«first_beat» }
+    record {
+      head = p .head;
+      count = p .count;
+      «next_addr» = p .«next_addr»;
+      «wait_left» = p .«wait_left»;
+      «head_addr» = p .«head_addr»;
+      enabled = p .enabled;
+      filling = false;
+      «first_beat» = p .«first_beat»;
+    }
 
 unfoldable pub startBeat : Waits → PrefetchBuffer → PrefetchBuffer
 startBeat t p = beatIn t p (window (p .«next_addr»))
@@ -87,7 +124,16 @@ ended t p = if ltb (p .count + 1) capacity then startBeat t (arrived p) else arr
 -- the buffer with another number of cycles left of its beat
 abbrev pub withWait : ℕ → PrefetchBuffer → PrefetchBuffer
 withWait n p =
-    record { head = p .head; count = p .count; «next_addr» = p .«next_addr»; «wait_left» = n; «head_addr» = p .«head_addr»; enabled = p .enabled; filling = p .filling; «first_beat» = p .«first_beat» }
+    record {
+      head = p .head;
+      count = p .count;
+      «next_addr» = p .«next_addr»;
+      «wait_left» = n;
+      «head_addr» = p .«head_addr»;
+      enabled = p .enabled;
+      filling = p .filling;
+      «first_beat» = p .«first_beat»;
+    }
 
 -- one cycle of the beat in flight
 unfoldable pub advance : Waits → PrefetchBuffer → PrefetchBuffer

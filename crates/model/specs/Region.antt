@@ -5,7 +5,8 @@ use Prim.Native.Nat.{ℕ, _/_}
 use lib.Dec.{eqb, ltb}
 use Rattle.model.specs.Base.{if_then_else_}
 use Rattle.model.specs.declared.Region.{Region}
-use Rattle.model.specs.declared.Region.the-variants.{Bios, UnusedLow, Ewram, Iwram, Io, Palette, Vram, Oam, GamePakRomWs0, GamePakRomWs1, GamePakRomWs2, GamePakSram, UnusedHigh}
+use Rattle.model.specs.declared.Region.the-variants.{Bios, UnusedLow, Ewram, Iwram, Io, Palette, Vram, Oam}
+use Rattle.model.specs.declared.Region.the-variants.{GamePakRomWs0, GamePakRomWs1, GamePakRomWs2, GamePakSram, UnusedHigh}
 use Rattle.model.specs.declared.BusWidth.the-variants.{Bits8, Bits16, Bits32}
 use Rattle.model.specs.declared.RegionWidth.{RegionWidth}
 use Rattle.model.specs.declared.RegionWidth.the-variants.{Wide, NoBus}

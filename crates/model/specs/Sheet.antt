@@ -67,7 +67,8 @@ recordsFrom s k (suc n) = recordAt s k ∷ recordsFrom s (k + 1) n
 abbrev pub recordsOf : List ℕ → List SheetRecord
 recordsOf s = recordsFrom s 0 (recordCount s)
 
--- ---- the step of a record without fault, whose WAITCNT value has 16 bits. Kinds: 1 READ, 2 WRITE, 3 WAITCNT, 4 IDLE, 5 FETCH, 6 RESTART, 7 INSTRUCTION, 8 PC, 9 LATCH
+-- ---- the step of a record without fault, whose WAITCNT value has 16 bits.
+-- Kinds: 1 READ, 2 WRITE, 3 WAITCNT, 4 IDLE, 5 FETCH, 6 RESTART, 7 INSTRUCTION, 8 PC, 9 LATCH
 
 unfoldable pub accessSize : ℕ → AccessSize
 accessSize size = if eqb size 1 then Byte else if eqb size 2 then Half else Word

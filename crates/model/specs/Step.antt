@@ -1,5 +1,6 @@
--- A step, and the run over a list of steps. A step is two records: what it does to time (`timed`), a function of the clock and the step
--- alone, and what it does to the contents (`changed`), where the memories enter. No definition of time has a memory among its arguments.
+-- A step, and the run over a list of steps. A step is two records: what it does to time (`timed`), a function of the clock
+-- and the step alone, and what it does to the contents (`changed`), where the memories enter. No definition of time has a
+-- memory among its arguments.
 -- From document 01, "Records (added)", "Kind 7 (added)", "Data price (added)"; each step names the Rust calls it stands for.
 use mathlib.Core.Bool.{Bool, false, _&&_}
 use mathlib.Core.List.{List, [], _∷_, map}
@@ -105,8 +106,8 @@ codeClock c isa a op jump =
 
 -- ---- a step in time
 
--- what a step does to time: the clock up to its idle cycles, how many of these follow, what it costs, and the halfwords that it takes
--- from the buffer
+-- what a step does to time: the clock up to its idle cycles, how many of these follow, what it costs, and the halfwords that
+-- it takes from the buffer
 pub record Timed : Type 0 where
   pub clock : Clock
   pub idle : ℕ
@@ -124,7 +125,8 @@ timed c (Idle n) = timing c n n 0
 timed c (Fetch a) = timing (withPrefetch c (fetched (c .prefetch) a)) 0 0 (bit (hit (c .prefetch) a))
 timed c (Restart a) = timing (withPrefetch c (restart (waitsOf c) (c .prefetch) a)) 0 0 0
 timed c (Instruction isa a op jump) =
-    timing (codeClock c isa a op jump) ((priced c isa a op jump) .«cart_idle») ((priced c isa a op jump) .total) (codeHits c isa a)
+    timing (codeClock c isa a op jump) ((priced c isa a op jump) .«cart_idle»)
+    ((priced c isa a op jump) .total) (codeHits c isa a)
 timed c (Pc a) = timing c 0 0 0
 timed c (Latch v) = timing c 0 0 0
 

@@ -53,8 +53,8 @@ videoPuts fill Byte p i v = if fill then putAligned p i 2 (0x0101 * (v % 256)) e
 videoPuts fill Half p i v = putAligned p i 2 v
 videoPuts fill Word p i v = putAligned p i 4 v
 
--- BIOS, ROM and unused areas take no store. On the bus of 8 bits one byte lands, at the address as given: the low one of the value
--- rotated by the address. It does not repeat at the chip's length, as a load does; departure: GBATEK has both repeat.
+-- BIOS, ROM and unused areas take no store. On the bus of 8 bits one byte lands, at the address as given: the low one of the
+-- value rotated by the address. It does not repeat at the chip's length, as a load does; departure: GBATEK has both repeat.
 abbrev pub putsAt : ℕ → AccessSize → ℕ → ℕ → Target → List Put
 putsAt mode z a v Unused = []
 putsAt mode z a v SystemRom = []
@@ -68,7 +68,8 @@ puts l mode z a v = putsAt mode z a v (target l a)
 
 -- ---- the counters of video stores
 
--- each halfword store to video memory counts 1, a word store 2, a byte store 1 if it fills a halfword; also past the memory's length
+-- each halfword store to video memory counts 1, a word store 2, a byte store 1 if it fills a halfword; also past the memory's
+-- length
 abbrev pub halfwords : Bool → AccessSize → ℕ
 halfwords fill Byte = bit fill
 halfwords fill Half = 1

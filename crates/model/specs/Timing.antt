@@ -1,4 +1,5 @@
--- The price of an instruction: its fetch, its internal cycle, the idle cycles it leaves the cartridge bus, and the disable-bug latch.
+-- The price of an instruction: its fetch, its internal cycle, the idle cycles it leaves the cartridge bus, and the
+-- disable-bug latch.
 -- From GBATEK, "ARM CPU Instruction Cycle Times" and "GBA GamePak Prefetch"; src/cpu/timing.rs; document 01, "cpu/timing.rs".
 -- Departures: branches and stores have no extra or nonsequential fetch, and data cycles are steps of their own.
 use mathlib.Core.Bool.{Bool}

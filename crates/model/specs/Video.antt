@@ -1,5 +1,6 @@
 -- Video memory: which byte stores fill a halfword, and which are dropped.
--- From GBATEK, "GBA Unpredictable Things" (8-bit writes to video memory) and "LCD VRAM Overview"; src/bus/video.rs; document 01, "video.rs".
+-- From GBATEK, "GBA Unpredictable Things" (8-bit writes to video memory) and "LCD VRAM Overview"; src/bus/video.rs;
+-- document 01, "video.rs".
 use mathlib.Core.Bool.{Bool, true, false, not}
 use Prim.Native.Nat.{ℕ}
 use lib.Dec.{leb}

@@ -60,7 +60,7 @@ pub fn bios_protect_read(pc: u32, state: OpenBusState) -> ProtectedRead
 pub fn bios_protect_byte(latch: u32, addr: u32) -> u8
     ensures { λ r. ⌜ r ≡ byteOf (addr % 4) latch ⌝ }
 {
-    parts::lane(latch, addr % 4)
+    le::lane(latch, addr % 4)
 }
 
 // With no cartridge the lines still hold the address, in halfwords. Ported for completeness: nothing calls it yet but

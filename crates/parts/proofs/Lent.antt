@@ -36,7 +36,8 @@ back-set xs a k i v h =
 
 back-out : (xs : List ℕ) (a k i v : ℕ) → k ≤ i → back xs a k (set (take k (drop a xs)) i v) ≡ xs
 back-out xs a k i v h =
-    ap (λ (l : List ℕ). back xs a k l) (set-out (take k (drop a xs)) i v (omega (arith, length-take k (drop a xs)))) ∙ back-same xs a k
+    ap (λ (l : List ℕ). back xs a k l) (set-out (take k (drop a xs)) i v (omega (arith, length-take k (drop a xs))))
+    ∙ back-same xs a k
 
 back-within : (xs : List ℕ) (a k i v : ℕ) → back xs a k (set (take k (drop a xs)) i v) ≡ landed xs (put (partAt a k) i v)
 unfolding put
@@ -46,7 +47,8 @@ back-within xs a k i v =
     (λ e. back-out xs a k i v (ltb-false i k e))
 
 -- a byte stored in the lent part lands; ys is what the leaf left in the part
-pub stored-part : (xs : List ℕ) (p : Part) (i v : ℕ) {ys : List ℕ} → ys ≡ set (take (p .base + p .size - p .base) (drop (p .base) xs)) i v
+pub stored-part : (xs : List ℕ) (p : Part) (i v : ℕ) {ys : List ℕ}
+    → ys ≡ set (take (p .base + p .size - p .base) (drop (p .base) xs)) i v
     → back xs (p .base) (p .base + p .size - p .base) ys ≡ landed xs (put p i v)
 stored-part xs p i v q =
     let length-is : p .base + p .size - p .base ≡ p .size = omega arith in
@@ -55,14 +57,16 @@ stored-part xs p i v q =
     ∙ back-within xs (p .base) (p .size) i v
 
 -- a byte read from the lent part
-pub part-byte : (xs : List ℕ) (p : Part) (i : ℕ) → getD (take (p .base + p .size - p .base) (drop (p .base) xs)) i 0 ≡ byteIn xs p i
+pub part-byte : (xs : List ℕ) (p : Part) (i : ℕ)
+    → getD (take (p .base + p .size - p .base) (drop (p .base) xs)) i 0 ≡ byteIn xs p i
 unfolding byteIn
 part-byte xs p i =
     let length-is : p .base + p .size - p .base ≡ p .size = omega arith in
     ap (λ (n : ℕ). getD (take n (drop (p .base) xs)) i 0) length-is
     ∙ choose (λ (b : ℕ). getD (take (p .size) (drop (p .base) xs)) i 0 ≡ b) (ltb i (p .size))
     (λ t. getD-take (p .size) (drop (p .base) xs) i 0 (ltb-true i (p .size) t) ∙ getD-drop (p .base) xs i 0)
-    (λ t. List·getD-eq-default (take (p .size) (drop (p .base) xs)) 0 (omega (arith, length-take (p .size) (drop (p .base) xs), ltb-false i (p .size) t)))
+    (λ t. List·getD-eq-default (take (p .size) (drop (p .base) xs)) 0
+    (omega (arith, length-take (p .size) (drop (p .base) xs), ltb-false i (p .size) t)))
 
 -- ---- bytes that land one behind the other
 

@@ -11,22 +11,8 @@ use region::mirror;
 ghost use mathlib.Core.Path.{_≡_};
 ghost use Prim.Native.Nat.{_+_, _^_, _≤_, _<_};
 ghost use lib.ListN.{length, set};
-ghost use Rattle.model.specs.Base.{byteOf};
 ghost use Rattle.model.specs.Memory as def;
 ghost use Rattle.model.specs.Store.{landed, put, putBytes, putAligned};
-
-// Byte `k` of a number: what rotating it right by 8 * k brings lowest.
-pub fn lane(value: u32, k: u32) -> u8
-    requires { ⌜ k < 4 ⌝ }
-    ensures { λ r. ⌜ r ≡ byteOf k value ⌝ }
-{
-    match k {
-        0 => (value % 256) as u8,
-        1 => (value / 0x100 % 256) as u8,
-        2 => (value / 0x1_0000 % 256) as u8,
-        _ => (value / 0x100_0000 % 256) as u8,
-    }
-}
 
 // ---- the seven memories, one after the other
 

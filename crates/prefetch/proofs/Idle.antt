@@ -68,7 +68,8 @@ module _ (t : Waits) (rom : List ℕ) where
     pub sound : Sound q
 
 module _ {t : Waits} {rom h₀ : List ℕ} {q₀ : PrefetchBuffer} {n₀ : ℕ} where
-  pub begin : {p : PrefetchBuffer} → SmallWaits t → not (p .enabled) ≡ false → Sound p → q₀ ≡ ready t p → Going t rom h₀ q₀ n₀ h₀ q₀ n₀
+  pub begin : {p : PrefetchBuffer} → SmallWaits t → not (p .enabled) ≡ false
+      → Sound p → q₀ ≡ ready t p → Going t rom h₀ q₀ n₀ h₀ q₀ n₀
   begin {p} small switch s e =
       let on = not-false (p .enabled) switch in
       record {
@@ -101,8 +102,8 @@ module _ {t : Waits} {rom h₀ : List ℕ} {q₀ : PrefetchBuffer} {n₀ : ℕ} 
       }
 
   -- it is left where the cycles that are left change nothing
-  pub finish : {h : List ℕ} {p q : PrefetchBuffer} {n : ℕ} → 1 ≤ n₀ → not (p .enabled) ≡ false → q₀ ≡ ready t p → Going t rom h₀ q₀ n₀ h q n
-      → Ticked t rom n q h q h → Ticked t rom n₀ p h₀ q h
+  pub finish : {h : List ℕ} {p q : PrefetchBuffer} {n : ℕ} → 1 ≤ n₀ → not (p .enabled) ≡ false → q₀ ≡ ready t p
+      → Going t rom h₀ q₀ n₀ h q n → Ticked t rom n q h q h → Ticked t rom n₀ p h₀ q h
   finish {h} {p} {q} {n} some switch s g r =
       let on = not-false (p .enabled) switch in
       record {

@@ -38,12 +38,6 @@ fn both(a: Found, b: Found) -> Found {
     }
 }
 
-fn one_if(same: bool) -> u32
-    ensures { λ r. ⌜ r ≤ 1 ⌝ }
-{
-    if same { 1 } else { 0 }
-}
-
 fn tell(case: u32, what: &[u8]) {
     io::write_all(STDOUT_FILENO, b"case ");
     io::print_decimal(STDOUT_FILENO, case as u64);
@@ -319,7 +313,7 @@ fn replay_all(count: u32) -> u32 {
             tell(case, b"bad sample");
             return agree;
         }
-        agree += one_if(found.same);
+        agree += le::bit(found.same) as u32;
         case += 1;
     }
     agree

@@ -10,7 +10,8 @@ use Rattle.model.specs.Waitcnt.{Waits, romWaits}
 use Rattle.model.specs.Wait.{window}
 use Rattle.model.specs.Prefetch.{restart, occupied, hit, taken, fetched}
 use Rattle.model.specs.Timing.{priceInsn}
-use Rattle.model.specs.Step.{withPrefetch, timingInput, priced, romFetched, romHits, fetchedIn, hitsIn, codeFetched, codeHits, codeClock, halfAt}
+use Rattle.model.specs.Step.{withPrefetch, timingInput, priced, romFetched, romHits, fetchedIn}
+use Rattle.model.specs.Step.{hitsIn, codeFetched, codeHits, codeClock, halfAt}
 use Rattle.model.specs.Laws.Choice.{choose, either}
 use Rattle.model.specs.Laws.Rules.{missed-again}
 use Rattle.model.specs.Laws.Switch.{restart-fetched}
@@ -33,7 +34,8 @@ use Rattle.step.specs.declared.CodeFetch.{CodeFetch}
 pub fetched-head : (p : PrefetchBuffer) (a : ℕ) → p .head < 8 → (fetched p a) .head < 8
 unfolding fetched taken
 fetched-head p a h =
-    either (λ (q : PrefetchBuffer). q .head < 8) (hit p a) (omega arith) (either (λ (q : PrefetchBuffer). q .head < 8) (occupied p) (omega arith) h)
+    either (λ (q : PrefetchBuffer). q .head < 8) (hit p a) (omega arith)
+    (either (λ (q : PrefetchBuffer). q .head < 8) (occupied p) (omega arith) h)
 
 -- ---- an opcode fetched through the buffer: on any miss it is only restarted, since a restart drains
 
@@ -57,7 +59,12 @@ module _ (t : Waits) (p : PrefetchBuffer) (a : ℕ) where
 
   pub arm-misses : hit p a ≡ false → record { prefetch = restart t p (further 4 a); hits = 0 } ≡ fetchOf t p a Arm
   arm-misses e =
-      rw (e, missed-again p a (further 2 a) e, restart-fetched t (fetched p a) (further 2 a) (further 4 a), restart-fetched t p a (further 4 a)) refl
+      rw (
+        e,
+        missed-again p a (further 2 a) e,
+        restart-fetched t (fetched p a) (further 2 a) (further 4 a),
+        restart-fetched t p a (further 4 a),
+      ) refl
 
 -- code in a window goes through the buffer
 abbrev pub codeFetch : Waits → PrefetchBuffer → ℕ → IsaState → CodeFetch
@@ -99,7 +106,8 @@ instructing c d price fetch =
       contents = d;
     }
 
-pub instruct : (c : Clock) (d : Contents) (t : Waits) (isa : IsaState) (a op : ℕ) (jump : Bool) {price : InsnCycles} {fetch : CodeFetch}
+pub instruct : (c : Clock) (d : Contents) (t : Waits) (isa : IsaState) (a op : ℕ) (jump : Bool)
+    {price : InsnCycles} {fetch : CodeFetch}
     → t ≡ romWaits (c .waitcnt)
     → price ≡ priceInsn (timingInput c isa a op jump) t (c .prefetch)
     → fetch ≡ codeFetch t (c .prefetch) a isa

@@ -7,7 +7,8 @@ use native.Mathlib.Nat.{mod-eq-of-lt}
 use Rattle.model.specs.Waitcnt.{Waits, romWaits}
 use Rattle.model.specs.Prefetch.{ticks, filled}
 use Rattle.model.specs.Load.{romHalfword}
-use Rattle.model.specs.Step.{Media, State, busOf, waitsOf, withPrefetch, Timed, timed, idled, changed, refilled, stepped, answer, clockAfter}
+use Rattle.model.specs.Step.{Media, State, busOf, waitsOf, withPrefetch, Timed, timed}
+use Rattle.model.specs.Step.{idled, changed, refilled, stepped, answer, clockAfter}
 use Rattle.model.specs.Laws.Bounds.{SmallWaits, romWaits-small}
 use Rattle.model.specs.Laws.Sound.{Sound, SoundClock, timed-sound, clockAfter-sound}
 use Rattle.model.specs.Laws.RomLoad.{filled-rom}
@@ -21,7 +22,8 @@ use Rattle.step.specs.Begun.{stateFrom, begun, Begins, Steps}
 use Rattle.step.specs.declared.Begun.{Begun}
 use Rattle.step.specs.declared.Stepped.{Stepped}
 
-module _ (m : Media) (s : State) (x : Step) (t : Waits) (sound : SoundClock (s .board .clock)) (w : t ≡ romWaits (s .board .clock .waitcnt))
+module _ (m : Media) (s : State) (x : Step) (t : Waits)
+    (sound : SoundClock (s .board .clock)) (w : t ≡ romWaits (s .board .clock .waitcnt))
     (b : Begun) (u : List ℕ) (begins : Begins m s x b u) where
   -- the step's own clock
   abbrev c : Clock
@@ -49,20 +51,29 @@ module _ (m : Media) (s : State) (x : Step) (t : Waits) (sound : SoundClock (s .
     halves-is : h ≡ refilled m s step-timed
     halves-is =
         ticked .halves
-        ∙ ap₂ (λ (z : Begun) (v : Waits). filled (romHalfword (m .rom)) v (z .idle) (z .clock .prefetch) (s .board .halves)) (begins .record-is) w
-        ∙ sym (filled-rom (m .lengths) (busOf m s) (waitsOf c) (romWaits-small (c .waitcnt)) (step-timed .idle) (step-timed .clock .prefetch)
-        (s .board .halves) ((timed-sound c x sound) .buffer))
+        ∙ ap₂ (λ (z : Begun) (v : Waits). filled (romHalfword (m .rom)) v (z .idle) (z .clock .prefetch) (s .board .halves))
+        (begins .record-is) w
+        ∙ sym (filled-rom (m .lengths) (busOf m s) (waitsOf c) (romWaits-small (c .waitcnt)) (step-timed .idle)
+        (step-timed .clock .prefetch) (s .board .halves) ((timed-sound c x sound) .buffer))
         ∙ (same-waits c x) .halves _ (s .board .halves)
 
     count-is : p .count % 256 ≡ (clockAfter c x) .prefetch .count
     count-is =
-        let same : p ≡ (clockAfter c x) .prefetch = sym (ap (λ (k : Clock). k .prefetch) clocked) ∙ ap (λ (k : Clock). k .prefetch) clock-is in
+        let same : p ≡ (clockAfter c x) .prefetch =
+        sym (ap (λ (k : Clock). k .prefetch) clocked) ∙ ap (λ (k : Clock). k .prefetch) clock-is in
         let few : (clockAfter c x) .prefetch .count ≤ 8 = (clockAfter-sound c x sound) .buffer .count≤8 in
         ap (λ (q : PrefetchBuffer). q .count % 256) same ∙ mod-eq-of-lt (omega arith)
 
     -- the answer, with what the tick left
     abbrev answered : Answer
-    answered = record { value = b .value; cycles = b .cycles; hits = b .hits; count = p .count % 256; force = after .«force_next_fetch_n» }
+    answered =
+        record {
+          value = b .value;
+          cycles = b .cycles;
+          hits = b .hits;
+          count = p .count % 256;
+          force = after .«force_next_fetch_n»;
+        }
 
     told : answered ≡ answer m s x
     told i =

@@ -1,5 +1,5 @@
-// One step of a run: what a record does to the board and the store, and its answer. Each step stands for the Rust calls that document
-// 01's table names.
+// One step of a run: what a record does to the board and the store, and its answer. Each step stands for the Rust calls that
+// document 01's table names.
 use model::AccessSize;
 use model::Answer;
 use model::Clock;
@@ -152,8 +152,8 @@ fn write_step(
 {
     let region = region::decode(addr);
     let target = parts::target_in(region, addr, lengths);
-    let n = stores::write(size, target, addr, value, store, lengths);
-    let counted = count_store(contents, target, n);
+    let stored = stores::write(size, target, addr, value, store, lengths);
+    let counted = count_store(contents, target, stored.halfwords);
     let cycles = data_price(clock.waitcnt, waits, size, region);
     unanswered(clock, counted, cycles, 0)
 }

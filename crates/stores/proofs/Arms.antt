@@ -1,5 +1,5 @@
--- What the arms and branches of the stores have in common: a callee's answer and the branch taken decide a test of the definitions.
--- Assumes nothing.
+-- What the arms and branches of the stores have in common: a callee's answer and the branch taken decide a test of the
+-- definitions. Assumes nothing.
 use mathlib.Core.Path.{_≡_, refl, _∙_, ap, sym}
 use mathlib.Core.List.{List}
 use mathlib.Core.Bool.{Bool, true, false, not}
@@ -18,6 +18,7 @@ use Rattle.model.specs.declared.AccessSize.{AccessSize}
 use Rattle.model.specs.declared.AccessSize.the-variants.{Byte, Half, Word}
 use Rattle.model.specs.declared.Part.{Part}
 use Rattle.stores.specs.Stored.{Filled}
+use Rattle.stores.specs.declared.Stored.{Stored}
 use Rattle.model.specs.declared.VideoMemory.the-variants.{VideoRam}
 use Rattle.video.specs.Actions.{vramTarget, vramClass, doubled, fillsHalfword, byteAction}
 use Rattle.video.specs.declared.VideoTarget.{VideoTarget}
@@ -47,7 +48,8 @@ halfword-case true h k e = cc
 halfword-case false h k e = let z : _≡_ {A = Bool} true false = cc in cc
 
 -- the halfword that it is filled with
-pub filled-with : (t : VideoTarget) (v : ℕ) {x : VideoWriteAction} {h : ℕ} → v < 256 → x ≡ byteAction t v → x ≡ ExpandByteToHalfword h
+pub filled-with : (t : VideoTarget) (v : ℕ) {x : VideoWriteAction} {h : ℕ}
+    → v < 256 → x ≡ byteAction t v → x ≡ ExpandByteToHalfword h
     → h ≡ 0x0101 * (v % 256)
 filled-with t v {x} {h} s p q =
     let e : h ≡ doubled v = halfword-case (fillsHalfword t) (doubled v) h (sym p ∙ q) in
@@ -73,7 +75,8 @@ unfolding objVramBase
 base-within mode = either (λ (n : ℕ). n ≤ vramSize) (leb mode 2) (lit≤ tt) (lit≤ tt)
 
 -- past its 96 KiB nothing is filled
-pub outside-drops : (mode i : ℕ) {m : ℕ} {x : VramTarget} → m ≡ mode → x ≡ vramClass i m → x ≡ Outside → false ≡ fills mode VideoRam i
+pub outside-drops : (mode i : ℕ) {m : ℕ} {x : VramTarget} → m ≡ mode
+    → x ≡ vramClass i m → x ≡ Outside → false ≡ fills mode VideoRam i
 unfolding vramClass isObjVram
 outside-drops mode i {m} {x} p e f =
     choose (λ (y : VramTarget). y ≡ Outside → false ≡ fills mode VideoRam i) (ltb i vramSize)
@@ -88,8 +91,9 @@ pub byte-aligned : (p : Part) (i v : ℕ) → put p i (v % 256) ≡ putAligned p
 byte-aligned p i v = let at : lowered 1 i ≡ i = omega arith in rw at (sym (putBytes-one p i v))
 
 -- a byte store to video memory, from what its place is called
-pub byte-video : (p : Part) (i v : ℕ) {f g : Bool} {before after : List ℕ} {n : ℕ} → f ≡ g → Filled f p i (v % 256) before after n
-    → Filled g p i v before after n
+pub byte-video : (p : Part) (i v : ℕ) {f g : Bool} {before after : List ℕ} {r : Stored}
+    → f ≡ g → Filled f p i (v % 256) before after r
+    → Filled g p i v before after r
 byte-video p i v {f} {g} {before} e s =
     let low : v % 256 % 256 ≡ v % 256 = omega arith in
     record {
@@ -108,7 +112,8 @@ lane-small a Byte = record { some = lit< tt; below = omega arith }
 lane-small a Half = record { some = lit< tt; below = omega arith }
 lane-small a Word = record { some = lit< tt; below = omega arith }
 
-pub lane-lands : (before : List ℕ) (p : Part) (i a v : ℕ) (z : AccessSize) {n b : ℕ} {after : List ℕ} → n ≡ sizeBytes z → b ≡ byteOf (a % n) v
-    → after ≡ landed before (put p i b) → after ≡ landed before (put p i (byteOf (a % sizeBytes z) v))
+pub lane-lands : (before : List ℕ) (p : Part) (i a v : ℕ) (z : AccessSize) {n b : ℕ} {after : List ℕ}
+    → n ≡ sizeBytes z → b ≡ byteOf (a % n) v → after ≡ landed before (put p i b)
+    → after ≡ landed before (put p i (byteOf (a % sizeBytes z) v))
 lane-lands before p i a v z e f s =
     s ∙ ap (λ (x : ℕ). landed before (put p i x)) (f ∙ ap (λ (k : ℕ). byteOf (a % k) v) e)

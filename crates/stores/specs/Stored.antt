@@ -6,27 +6,33 @@ use Prim.Native.Nat.{ℕ}
 use lib.ListN.{length}
 use Rattle.model.specs.Memory.{lengthsSum}
 use Rattle.model.specs.Base.{bit}
-use Rattle.model.specs.Store.{Put, landed, modeOf, videoPuts, putsAt, videoCount}
+use Rattle.model.specs.Wait.{sizeBytes}
+use Rattle.model.specs.Store.{Put, landed, modeOf, putAligned, videoPuts, putsAt, videoCount}
 use Rattle.model.specs.Laws.Places.{Lies}
 use Rattle.model.specs.declared.AccessSize.{AccessSize}
 use Rattle.model.specs.declared.AccessSize.the-variants.{Byte}
 use Rattle.model.specs.declared.Lengths.{Lengths}
 use Rattle.model.specs.declared.Part.{Part}
 use Rattle.model.specs.declared.Target.{Target}
+use Rattle.stores.specs.declared.Stored.{Stored}
 
 -- these bytes land, and so many video halfwords are counted
-pub record Stored (ps : List Put) (k : ℕ) (before after : List ℕ) (n : ℕ) : Type 0 where
+pub record Stores (ps : List Put) (k : ℕ) (before after : List ℕ) (r : Stored) : Type 0 where
   pub bytes : after ≡ landed before ps
-  pub halfwords : n ≡ k
+  pub halfwords : r .halfwords ≡ k
 
 -- a byte store to video memory that fills its halfword, or doesn't
-abbrev pub Filled : Bool → Part → ℕ → ℕ → List ℕ → List ℕ → ℕ → Type 0
-Filled fill p i v before after n = Stored (videoPuts fill Byte p i v) (bit fill) before after n
+abbrev pub Filled : Bool → Part → ℕ → ℕ → List ℕ → List ℕ → Stored → Type 0
+Filled fill p i v before after r = Stores (videoPuts fill Byte p i v) (bit fill) before after r
+
+-- a store to EWRAM, IWRAM or I/O: all its bytes, aligned
+abbrev pub StoredPlain : AccessSize → Part → ℕ → ℕ → List ℕ → List ℕ → Stored → Type 0
+StoredPlain z p i v before after r = Stores (putAligned p i (sizeBytes z) v) 0 before after r
 
 -- a store of a value at an address that meets a memory, in the display mode of its moment
-abbrev pub StoredAt : AccessSize → ℕ → ℕ → Target → Lengths → List ℕ → List ℕ → ℕ → Type 0
-StoredAt z a v t l before after n =
-    Stored (putsAt (modeOf l before) z a v t) (videoCount (modeOf l before) z t) before after n
+abbrev pub StoredAt : AccessSize → ℕ → ℕ → Target → Lengths → List ℕ → List ℕ → Stored → Type 0
+StoredAt z a v t l before after r =
+    Stores (putsAt (modeOf l before) z a v t) (videoCount (modeOf l before) z t) before after r
 
 -- a memory that is met, in a store of these lengths
 pub record Storable (t : Target) (l : Lengths) (store : List ℕ) : Type 0 where

@@ -1,13 +1,13 @@
 // The bus's stores of 1, 2 and 4 bytes to the lent memories, which are parts of one store. Port of the stores of src/bus/mod.rs
 // (`Bus as CpuMem`). A store goes on from the memory that its address meets, which the caller has decoded, and reports the video
 // halfwords that it counts.
+use le::lane;
 use model::AccessSize;
 use model::Lengths;
 use model::Part;
 use model::Target;
 use model::VideoMemory;
 use parts::byte_in;
-use parts::lane;
 use parts::put;
 use parts::put_half;
 use parts::put_word;
@@ -19,13 +19,17 @@ ghost use mathlib.Core.Path.{_≡_};
 ghost use Prim.Native.Nat.{_+_, _^_, _≤_, _<_};
 ghost use lib.ListN.{length};
 ghost use Rattle.model.specs.Memory.{lengthsSum};
-ghost use Rattle.model.specs.Wait.{sizeBytes};
 ghost use Rattle.model.specs.Video.{fills};
 ghost use Rattle.model.specs.Store as def;
-ghost use Rattle.stores.specs.Stored.{Filled, StoredAt, Storable};
+ghost use Rattle.stores.specs.Stored.{Filled, StoredPlain, StoredAt, Storable};
 ghost use Rattle.model.specs.declared.VideoMemory.the-variants.{VideoRam};
 ghost use Rattle.model.specs.declared.Target.the-variants.{Video};
 ghost use Rattle.video.specs.Actions.{fillsHalfword};
+
+// What a store reports: the video halfwords that it counts.
+pub struct Stored {
+    pub halfwords: u32,
+}
 
 // A counter stops at its greatest number.
 pub fn saturating_add(a: u64, b: u64) -> u64
@@ -71,19 +75,25 @@ fn video_target(memory: VideoMemory, index: usize, store: &[u8], lengths: Length
 }
 
 // A byte store fills its halfword, or is dropped.
-fn write8_video(target: VideoTarget, part: Part, index: usize, value: u8, store: &mut [u8]) -> u32
+fn write8_video(
+    target: VideoTarget,
+    part: Part,
+    index: usize,
+    value: u8,
+    store: &mut [u8],
+) -> Stored
     requires { ⌜ part .base + part .size ≤ length (now store) ⌝ }
     ensures { λ r. ⌜ Filled (fillsHalfword target) part index value (now (store .entry)) (now (store .exit)) r ⌝ }
 {
     let action = video::resolve_strb(target, value);
     match action {
-        VideoWriteAction::Store => 0,
+        VideoWriteAction::Store => Stored { halfwords: 0 },
         VideoWriteAction::ExpandByteToHalfword { halfword } => {
             put_half(store, part, index, halfword as u32);
-            1
+            Stored { halfwords: 1 }
         }
-        VideoWriteAction::Ignore => 0,
-        VideoWriteAction::Reject => 0,
+        VideoWriteAction::Ignore => Stored { halfwords: 0 },
+        VideoWriteAction::Reject => Stored { halfwords: 0 },
     }
 }
 
@@ -95,7 +105,7 @@ fn write_video(
     value: u32,
     store: &mut [u8],
     lengths: Lengths,
-) -> u32
+) -> Stored
     requires { ⌜ Storable (Video memory part index) lengths (now store) ⌝ }
     ensures { λ r. ⌜ StoredAt size 0 value (Video memory part index) lengths (now (store .entry)) (now (store .exit)) r ⌝ }
 {
@@ -106,23 +116,32 @@ fn write_video(
         }
         AccessSize::Half => {
             put_half(store, part, index, value);
-            1
+            Stored { halfwords: 1 }
         }
         AccessSize::Word => {
             put_word(store, part, index, value);
-            2
+            Stored { halfwords: 2 }
         }
     }
 }
 
-fn write_plain(size: AccessSize, part: Part, index: usize, value: u32, store: &mut [u8])
+fn write_plain(size: AccessSize, part: Part, index: usize, value: u32, store: &mut [u8]) -> Stored
     requires { ⌜ part .base + part .size ≤ length (now store) ⌝ }
-    ensures { λ _. ⌜ now (store .exit) ≡ def.landed (now (store .entry)) (def.putAligned part index (sizeBytes size) value) ⌝ }
+    ensures { λ r. ⌜ StoredPlain size part index value (now (store .entry)) (now (store .exit)) r ⌝ }
 {
     match size {
-        AccessSize::Byte => put(store, part, index, (value % 256) as u8),
-        AccessSize::Half => put_half(store, part, index, value),
-        AccessSize::Word => put_word(store, part, index, value),
+        AccessSize::Byte => {
+            put(store, part, index, (value % 256) as u8);
+            Stored { halfwords: 0 }
+        }
+        AccessSize::Half => {
+            put_half(store, part, index, value);
+            Stored { halfwords: 0 }
+        }
+        AccessSize::Word => {
+            put_word(store, part, index, value);
+            Stored { halfwords: 0 }
+        }
     }
 }
 
@@ -134,24 +153,21 @@ pub fn write(
     value: u32,
     store: &mut [u8],
     lengths: Lengths,
-) -> u32
+) -> Stored
     requires { ⌜ Storable target lengths (now store) ⌝ }
     ensures { λ r. ⌜ StoredAt size addr value target lengths (now (store .entry)) (now (store .exit)) r ⌝ }
 {
     match target {
-        Target::Unused => 0,
-        Target::SystemRom => 0,
-        Target::GamePakRom => 0,
-        Target::Plain(part, index) => {
-            write_plain(size, part, index, value, store);
-            0
-        }
+        Target::Unused => Stored { halfwords: 0 },
+        Target::SystemRom => Stored { halfwords: 0 },
+        Target::GamePakRom => Stored { halfwords: 0 },
+        Target::Plain(part, index) => write_plain(size, part, index, value, store),
         Target::Video(memory, part, index) => {
             write_video(size, memory, part, index, value, store, lengths)
         }
         Target::Sram(part, index) => {
             put(store, part, index, lane(value, addr % size_bytes(size)));
-            0
+            Stored { halfwords: 0 }
         }
     }
 }

@@ -13,14 +13,18 @@ pub struct DisableBugInput {
 
 // Whether the next opcode fetch is nonsequential by the bug.
 pub fn force_next_fetch_nonseq(input: DisableBugInput) -> bool
-    ensures { λ r. ⌜ r ≡ def.forceNextFetchNonseq (input .«prefetch_enabled») (input .«code_in_rom») (input .«had_internal_cycles») (input .«pc_changed») ⌝ }
+    ensures { λ r. ⌜ r ≡ def.forceNextFetchNonseq (input .«prefetch_enabled») (input .«code_in_rom»)
+        (input .«had_internal_cycles») (input .«pc_changed») ⌝ }
 {
     !input.prefetch_enabled & input.code_in_rom & input.had_internal_cycles & !input.pc_changed
 }
 
-// The kind of the next opcode fetch.
+// The kind of the next opcode fetch. Ported for completeness: nothing calls it yet.
 pub fn next_opcode_access_kind(input: DisableBugInput, sequential: bool) -> AccessKind
-    ensures { λ r. ⌜ r ≡ def.nextOpcodeAccessKind (def.forceNextFetchNonseq (input .«prefetch_enabled») (input .«code_in_rom») (input .«had_internal_cycles») (input .«pc_changed»)) sequential ⌝ }
+    ensures { λ r. ⌜ r ≡ def.nextOpcodeAccessKind
+        (def.forceNextFetchNonseq (input .«prefetch_enabled») (input .«code_in_rom»)
+        (input .«had_internal_cycles») (input .«pc_changed»))
+        sequential ⌝ }
 {
     if force_next_fetch_nonseq(input) {
         return AccessKind::Nonseq;

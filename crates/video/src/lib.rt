@@ -101,7 +101,8 @@ pub fn resolve_strb(target: VideoTarget, data: u8) -> VideoWriteAction
     }
 }
 
-// A store of any size; of a byte, `data_lsb` is the value.
+// A store of any size; of a byte, `data_lsb` is the value. Ported for completeness: nothing calls it yet, nor the two functions
+// that only it calls, since a store that is wide lands whole.
 pub fn resolve_video_write(target: VideoTarget, size: AccessSize, data_lsb: u8) -> VideoWriteAction
     ensures { λ r. ⌜ r ≡ actions.videoAction target size «data_lsb» ⌝ }
 {

@@ -16,7 +16,15 @@ abbrev lent : tie.After-examine → Lent
 lent c =
     let g = c .before .before .before .before .before .before .before .before .before .before .args in
     lending (g .sheet .now) (g .board .now) (g .store .now) (g .bios .now) (g .rom .now) (g .answers .now)
-    (record { ewram = g .ewram; iwram = g .iwram; io = g .io; palette = g .palette; vram = g .vram; oam = g .oam; sram = g .sram })
+    (record {
+      ewram = g .ewram;
+      iwram = g .iwram;
+      io = g .io;
+      palette = g .palette;
+      vram = g .vram;
+      oam = g .oam;
+      sram = g .sram;
+    })
 
 -- ---- the sheet is accepted
 

@@ -1,5 +1,5 @@
--- `run_accepted` meets its contract: an accepted sheet gives each callee what it asks, and the run's parts make the accepted outcome.
--- Assumes nothing.
+-- `run_accepted` meets its contract: an accepted sheet gives each callee what it asks, and the run's parts make the accepted
+-- outcome. Assumes nothing.
 use mathlib.Core.Path.{_≡_, refl, sym, _∙_}
 use native.Mathlib.Omega.{arith}
 use borrow.Author.Needs.{needs}
@@ -43,7 +43,9 @@ run-core-requires c κs =
       few = omega (arith, n .record-count .ensures, k .shaped .few);
       long = omega (arith, n .record-count .ensures, k .shaped .long);
       room = omega (arith, n .record-count .ensures, k .room);
-      sound = rw (with-clock d .load-clock .ensures) (k .clock (λ j. omega (arith, n .before .before .before .before .before .slice-known .given j)));
+      sound =
+          rw (with-clock d .load-clock .ensures)
+          (k .clock (λ j. omega (arith, n .before .before .before .before .before .slice-known .given j)));
       whole = k .store;
     }
 
@@ -68,9 +70,9 @@ returns c =
     let d = loaded (ran written) in
     let n = counted d in
     accepted-from (lent n) (n .record-count .result) (with-clock d .load-clock .result) (d .load-halves .result)
-    (with-contents d .load-contents .result) (n .record-count .ensures) (with-clock d .load-clock .ensures) (d .load-halves .ensures)
-    (with-contents d .load-contents .ensures) _ (ran written .run-core .result) _ _ _ _ (ran written .run-core .ensures)
-    (written .put-board .ensures) refl
+    (with-contents d .load-contents .result) (n .record-count .ensures) (with-clock d .load-clock .ensures)
+    (d .load-halves .ensures) (with-contents d .load-contents .ensures) _ (ran written .run-core .result) _ _ _ _
+    (ran written .run-core .ensures) (written .put-board .ensures) refl
 
 pub run-accepted-spec : {M : Type 1} → statement M
 run-accepted-spec =

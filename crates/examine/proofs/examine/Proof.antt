@@ -73,13 +73,15 @@ returns-2 : tie.Need-returns-2
 returns-2 c =
     let d = c .before .before .before in
     let i = lent (entry d) in
-    stopped (lengths-part i) (fromBoard i) (c .before .before .examine-lengths .ensures) (c .enum-told4 .given .1) ∙ sym (past-sheet d)
+    stopped (lengths-part i) (fromBoard i) (c .before .before .examine-lengths .ensures) (c .enum-told4 .given .1)
+    ∙ sym (past-sheet d)
 
 returns-3 : tie.Need-returns-3
 returns-3 c =
     let d = c .before .before .before in
     let i = lent (entry (to-sheet d)) in
-    stopped (boardRows (i .board)) (fromAnswers i) (c .before .before .examine-board .ensures) (c .enum-told6 .given .1) ∙ sym (past-lengths d)
+    stopped (boardRows (i .board)) (fromAnswers i) (c .before .before .examine-board .ensures) (c .enum-told6 .given .1)
+    ∙ sym (past-lengths d)
 
 examine-answers-requires : tie.Need-examine-answers-requires
 examine-answers-requires c κs = omega (arith, c .record-count .ensures, (shaped (to-sheet (to-lengths (c .before)))) .few)
@@ -90,7 +92,8 @@ returns-4 c =
     let n = c .before .before .before .record-count .ensures in
     let i = lent (entry (to-sheet (to-lengths d))) in
     stopped (answersRows (recordCount (i .sheet)) (length (i .answers))) (recordsRows (i .sheet))
-    (c .before .before .examine-answers .ensures ∙ ap (λ (k : ℕ). firstRow (answersRows k (length (i .answers)))) n) (c .enum-told8 .given .1)
+    (c .before .before .examine-answers .ensures ∙ ap (λ (k : ℕ). firstRow (answersRows k (length (i .answers)))) n)
+    (c .enum-told8 .given .1)
     ∙ sym (past-board d)
 
 examine-records-requires : tie.Need-examine-records-requires
@@ -106,7 +109,8 @@ returns-5 c =
     ∙ sym
     (past-board d
     ∙ passed (answersRows (recordCount (i .sheet)) (length (i .answers))) (recordsRows (i .sheet))
-    (a .before .before .examine-answers .ensures ∙ ap (λ (k : ℕ). firstRow (answersRows k (length (i .answers)))) n) (a .enum-told7 .given .1))
+    (a .before .before .examine-answers .ensures ∙ ap (λ (k : ℕ). firstRow (answersRows k (length (i .answers)))) n)
+    (a .enum-told7 .given .1))
 
 pub examine-spec : {M : Type 1} → statement M
 examine-spec =

@@ -13,7 +13,9 @@ rem-if1 : tie.Need-rem-if1
 rem-if1 c = rw (c .size-bytes .ensures) (some-bytes (c .before .before .before .before .args .size))
 
 word-from-requires : tie.Need-word-from-requires
-word-from-requires c κs = let start = c .before .before .before .before .before in meets-lies (start .args .lengths) (start .args .addr) (start .pre)
+word-from-requires c κs =
+    let start = c .before .before .before .before .before in
+    meets-lies (start .args .lengths) (start .args .addr) (start .pre)
 
 returns : tie.Need-returns
 returns c =
@@ -21,8 +23,9 @@ returns c =
     let tested = found .before .before in
     let start = tested .before .before .before .before in
     let a = start .args in
+    let seen = bus (a .pc) (a .latch) (a .bios .now) (a .rom .now) (a .store .now) in
     c .low-bytes .ensures
-    ∙ word-loads (a .lengths) (bus (a .pc) (a .latch) (a .bios .now) (a .rom .now) (a .store .now)) (a .size) (a .addr) (omega arith)
+    ∙ word-loads (a .lengths) seen (a .size) (a .addr) (omega arith)
     (ap (λ (n : ℕ). a .addr % n) (sym (tested .size-bytes .ensures)) ∙ found .before .if1 .taken)
     (λ j. omega (arith, tested .before .shared-slice-known3 .given j))
     (λ j. omega (arith, tested .before .before .shared-slice-known2 .given j))

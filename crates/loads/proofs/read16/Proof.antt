@@ -13,7 +13,9 @@ abbrev start : tie.After-is-sram → tie.Start
 start c = c .before .before .before .before .before
 
 abbrev seen : tie.After-is-sram → Bus
-seen c = bus (start c .args .pc) (start c .args .latch) (start c .args .bios .now) (start c .args .rom .now) (start c .args .store .now)
+seen c =
+    let a = start c .args in
+    bus (a .pc) (a .latch) (a .bios .now) (a .rom .now) (a .store .now)
 
 read8-requires : tie.Need-read8-requires
 read8-requires c κs = let start = c .before .before .before in meets-lies (start .args .lengths) (start .args .addr) (start .pre)
@@ -21,8 +23,8 @@ read8-requires c κs = let start = c .before .before .before in meets-lies (star
 returns : tie.Need-returns
 returns c =
     let at = c .before in
-    half-repeats (start at .args .lengths) (seen at) (start at .args .addr) (start at .pre .memory) (at .is-sram .ensures) (c .if1 .taken)
-    (at .before .read8 .ensures)
+    half-repeats (start at .args .lengths) (seen at) (start at .args .addr) (start at .pre .memory) (at .is-sram .ensures)
+    (c .if1 .taken) (at .before .read8 .ensures)
 
 read8-requires-2 : tie.Need-read8-requires-2
 read8-requires-2 c κs =

@@ -13,7 +13,9 @@ abbrev start : tie.After-is-sram → tie.Start
 start c = c .before .before .before .before
 
 abbrev seen : tie.After-is-sram → Bus
-seen c = bus (start c .args .pc) (start c .args .latch) (start c .args .bios .now) (start c .args .rom .now) (start c .args .store .now)
+seen c =
+    let a = start c .args in
+    bus (a .pc) (a .latch) (a .bios .now) (a .rom .now) (a .store .now)
 
 read8-requires : tie.Need-read8-requires
 read8-requires c κs = let at = c .before in meets-lies (start at .args .lengths) (start at .args .addr) (start at .pre)
@@ -21,8 +23,8 @@ read8-requires c κs = let at = c .before in meets-lies (start at .args .lengths
 returns : tie.Need-returns
 returns c =
     let at = c .before .before in
-    word-repeats (start at .args .lengths) (seen at) (start at .args .addr) (start at .pre .memory) (at .is-sram .ensures) (c .before .if1 .taken)
-    (c .read8 .ensures)
+    word-repeats (start at .args .lengths) (seen at) (start at .args .addr) (start at .pre .memory) (at .is-sram .ensures)
+    (c .before .if1 .taken) (c .read8 .ensures)
 
 read16-requires-2 : tie.Need-read16-requires-2
 read16-requires-2 c κs =

@@ -8,14 +8,17 @@ use Rattle.loads.proofs.read_apart.Statement.{statement}
 use Rattle.loads.proofs.read_apart.Tie as tie
 
 read8-requires : tie.Need-read8-requires
-read8-requires c κs = let start = c .before .before .before .before .before in meets-lies (start .args .lengths) (start .args .addr) (start .pre)
+read8-requires c κs =
+    let start = c .before .before .before .before .before in
+    meets-lies (start .args .lengths) (start .args .addr) (start .pre)
 
 returns : tie.Need-returns
 returns c =
     let start = c .before .before .before .before .before .before in
     let a = start .args in
+    let seen = bus (a .pc) (a .latch) (a .bios .now) (a .rom .now) (a .store .now) in
     simp (c .before .enum-told .given .1)
-    (byte-is (a .lengths) (bus (a .pc) (a .latch) (a .bios .now) (a .rom .now) (a .store .now)) (a .addr) (start .pre .memory) (c .read8 .ensures))
+    (byte-is (a .lengths) seen (a .addr) (start .pre .memory) (c .read8 .ensures))
 
 returns-2 : tie.Need-returns-2
 returns-2 c = c .read16 .ensures ∙ simp (c .before .enum-told2 .given .1)

@@ -19,7 +19,9 @@ unfolding wordAt
 returns-2 c =
     let start = c .before .before .before .before .before .before in
     let p = start .args .part in
-    ap Word (c .read32 .ensures ∙ number-part 4 (start .args .store .now) (p .base) (p .base + p .size - p .base) (start .args .index) (omega arith))
+    ap Word
+    (c .read32 .ensures
+    ∙ number-part 4 (start .args .store .now) (p .base) (p .base + p .size - p .base) (start .args .index) (omega arith))
     ∙ simp (le-ltb _ _ (c .before .before .before .if1 .left))
 
 pub word-in-spec : {M : Type 1} → statement M

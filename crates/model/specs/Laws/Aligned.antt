@@ -22,7 +22,8 @@ use Rattle.model.specs.declared.VideoMemory.{VideoMemory}
 use Rattle.model.specs.declared.Target.{Target}
 use Rattle.model.specs.declared.Target.the-variants.{GamePakRom, Plain, Video}
 
--- the bytes of the aligned word around an address are those of a list from a place on, and none of them is one that a load repeats
+-- the bytes of the aligned word around an address are those of a list from a place on, and none of them is one that a load
+-- repeats
 pub record Rows (l : Lengths) (b : Bus) (a : ℕ) (xs : List ℕ) (q : ℕ) : Type 0 where
   pub byte : (j : ℕ) → (a + j) / 4 ≡ a / 4 → load8 l b (a + j) ≡ byteAt xs (q + j)
   pub plain : (j : ℕ) → (a + j) / 4 ≡ a / 4 → isSram (target l (a + j)) ≡ false
@@ -72,7 +73,8 @@ module _ (l : Lengths) (b : Bus) (a : ℕ) where
   unfolding load8
   plain-rows p i e h =
       record {
-        byte = λ j k. ap (byteFrom b (a + j)) (there j k) ∙ byte-there (b .store) p (i + j) _ (place j k) (omega arith) ∙ ap (byteAt (b .store)) (omega arith);
+        byte = λ j k. ap (byteFrom b (a + j)) (there j k)
+            ∙ byte-there (b .store) p (i + j) _ (place j k) (omega arith) ∙ ap (byteAt (b .store)) (omega arith);
         plain = λ j k. ap isSram (there j k);
       }
     where
@@ -80,16 +82,21 @@ module _ (l : Lengths) (b : Bus) (a : ℕ) where
       there j k = near l a (a + j) k ∙ ap (λ (t : Target). moved t ((a + j) % 4)) e
 
       own : i ≡ around i (a % 4)
-      own = let same : Plain p i ≡ Plain p (around i (a % 4)) = sym e ∙ near l a a refl ∙ ap (λ (t : Target). moved t (a % 4)) e in cc
+      own =
+          let same : Plain p i ≡ Plain p (around i (a % 4)) =
+          sym e ∙ near l a a refl ∙ ap (λ (t : Target). moved t (a % 4)) e in
+          cc
 
       place : (j : ℕ) → (a + j) / 4 ≡ a / 4 → around i ((a + j) % 4) ≡ i + j
       place j k = omega (arith, own)
 
-  pub video-rows : (m : VideoMemory) (p : Part) (i : ℕ) → target l a ≡ Video m p i → i + 4 ≤ p .size → Rows l b a (b .store) (p .base + i)
+  pub video-rows : (m : VideoMemory) (p : Part) (i : ℕ) → target l a ≡ Video m p i
+      → i + 4 ≤ p .size → Rows l b a (b .store) (p .base + i)
   unfolding load8
   video-rows m p i e h =
       record {
-        byte = λ j k. ap (byteFrom b (a + j)) (there j k) ∙ byte-there (b .store) p (i + j) _ (place j k) (omega arith) ∙ ap (byteAt (b .store)) (omega arith);
+        byte = λ j k. ap (byteFrom b (a + j)) (there j k)
+            ∙ byte-there (b .store) p (i + j) _ (place j k) (omega arith) ∙ ap (byteAt (b .store)) (omega arith);
         plain = λ j k. ap isSram (there j k);
       }
     where
@@ -97,7 +104,10 @@ module _ (l : Lengths) (b : Bus) (a : ℕ) where
       there j k = near l a (a + j) k ∙ ap (λ (t : Target). moved t ((a + j) % 4)) e
 
       own : i ≡ around i (a % 4)
-      own = let same : Video m p i ≡ Video m p (around i (a % 4)) = sym e ∙ near l a a refl ∙ ap (λ (t : Target). moved t (a % 4)) e in cc
+      own =
+          let same : Video m p i ≡ Video m p (around i (a % 4)) =
+          sym e ∙ near l a a refl ∙ ap (λ (t : Target). moved t (a % 4)) e in
+          cc
 
       place : (j : ℕ) → (a + j) / 4 ≡ a / 4 → around i ((a + j) % 4) ≡ i + j
       place j k = omega (arith, own)

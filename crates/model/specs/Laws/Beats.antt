@@ -1,5 +1,5 @@
--- Idle cycles a beat at a time: what n of them do at the start of a beat, within it, to its end and at rest, for the buffer and its
--- halfwords. With these a loop that takes a beat a turn is the idle cycles one by one.
+-- Idle cycles a beat at a time: what n of them do at the start of a beat, within it, to its end and at rest, for the buffer
+-- and its halfwords. With these a loop that takes a beat a turn is the idle cycles one by one.
 use mathlib.Core.Path.{_≡_, refl, sym, ap, ap₂, _∙_}
 use mathlib.Core.Bool.{Bool, true, false, not, _&&_}
 use mathlib.Core.List.{List}
@@ -12,7 +12,8 @@ use borrow.Author.Tests.{le-leb, lt-leb}
 use Rattle.model.specs.Base.{if_then_else_, further}
 use Rattle.model.specs.Waitcnt.{Waits}
 use Rattle.model.specs.Wait.{window, isIn, inWindow}
-use Rattle.model.specs.Prefetch.{capacity, beatIn, startBeat, arrived, ended, withWait, advance, ready, tick1, ticks, arrives, slot, filled}
+use Rattle.model.specs.Prefetch.{capacity, beatIn, startBeat, arrived, ended, withWait}
+use Rattle.model.specs.Prefetch.{advance, ready, tick1, ticks, arrives, slot, filled}
 use Rattle.model.specs.Laws.Choice.{choose, either, by-test, if-true, if-false, never, and-true, and-true-right, parts}
 use Rattle.model.specs.Laws.Switch.{ready-switch}
 use Rattle.model.specs.Laws.Rules.{ticks-rest, tick1-off}
@@ -58,12 +59,15 @@ module _ (t : Waits) where
   -- what `ready` gives has none to start, and neither has what follows it
   pub ready-awake : (p : PrefetchBuffer) → Awake (ready t p)
   unfolding ready
-  ready-awake p = choose Awake (not (p .filling) && ltb (p .count) capacity && inWindow (p .«next_addr»)) (λ e. startBeat-awake p) (λ e. if-false _ _ _ e)
+  ready-awake p =
+      choose Awake (not (p .filling) && ltb (p .count) capacity && inWindow (p .«next_addr»))
+      (λ e. startBeat-awake p) (λ e. if-false _ _ _ e)
 
   tick1-awake : (p : PrefetchBuffer) → Awake p → Awake (tick1 t p)
   unfolding tick1
   tick1-awake p a =
-      choose Awake (p .enabled && (ready t p) .filling) (λ e. advance-awake (ready t p) (and-true-right (p .enabled) ((ready t p) .filling) e)) (λ e. a)
+      choose Awake (p .enabled && (ready t p) .filling)
+      (λ e. advance-awake (ready t p) (and-true-right (p .enabled) ((ready t p) .filling) e)) (λ e. a)
 
   pub ticks-awake : (n : ℕ) (p : PrefetchBuffer) → Awake p → Awake (ticks t n p)
   unfolding ticks
@@ -84,7 +88,8 @@ module _ (t : Waits) where
   ready-none : (p : PrefetchBuffer) → (ready t p) .filling ≡ false → ready t p ≡ p
   unfolding ready
   ready-none p =
-      choose (λ (q : PrefetchBuffer). q .filling ≡ false → q ≡ p) (not (p .filling) && ltb (p .count) capacity && inWindow (p .«next_addr»))
+      choose (λ (q : PrefetchBuffer). q .filling ≡ false → q ≡ p)
+      (not (p .filling) && ltb (p .count) capacity && inWindow (p .«next_addr»))
       (λ e h. let i : inWindow (p .«next_addr») ≡ true = search parts in never (startBeat-fills p i) h)
       (λ e h. refl)
 
@@ -94,7 +99,8 @@ module _ (t : Waits) where
   tick1-on p on f = if-true _ _ _ (and-true _ _ on f)
 
   tick1-busy : (p : PrefetchBuffer) → p .enabled ≡ true → p .filling ≡ true → tick1 t p ≡ advance t p
-  tick1-busy p on f = tick1-on p on (ap (λ (q : PrefetchBuffer). q .filling) (busy-awake p f) ∙ f) ∙ ap (advance t) (busy-awake p f)
+  tick1-busy p on f =
+      tick1-on p on (ap (λ (q : PrefetchBuffer). q .filling) (busy-awake p f) ∙ f) ∙ ap (advance t) (busy-awake p f)
 
   tick1-start : (p : PrefetchBuffer) → p .enabled ≡ true → tick1 t p ≡ tick1 t (ready t p)
   tick1-start p on =
@@ -142,7 +148,8 @@ module _ (t : Waits) where
 
   -- ---- within a beat
 
-  tick1-wait : (p : PrefetchBuffer) → p .enabled ≡ true → p .filling ≡ true → 1 < p .«wait_left» → tick1 t p ≡ withWait (p .«wait_left» - 1) p
+  tick1-wait : (p : PrefetchBuffer) → p .enabled ≡ true → p .filling ≡ true
+      → 1 < p .«wait_left» → tick1 t p ≡ withWait (p .«wait_left» - 1) p
   unfolding advance
   tick1-wait p on f h = tick1-busy p on f ∙ if-false _ _ _ (lt-leb (p .«wait_left») 1 h)
 
@@ -163,10 +170,12 @@ module _ (t : Waits) where
   unfolding arrives
   arrives-busy p on f = rw (busy-awake p f, on, f)
 
-  landed-wait : (read : ℕ → ℕ) (p : PrefetchBuffer) (h : List ℕ) → p .enabled ≡ true → p .filling ≡ true → 1 < p .«wait_left» → landed read p h ≡ h
+  landed-wait : (read : ℕ → ℕ) (p : PrefetchBuffer) (h : List ℕ) → p .enabled ≡ true
+      → p .filling ≡ true → 1 < p .«wait_left» → landed read p h ≡ h
   landed-wait read p h on f k = if-false _ _ _ (arrives-busy p on f ∙ lt-leb (p .«wait_left») 1 k)
 
-  pub filled-within : (read : ℕ → ℕ) (n : ℕ) (p : PrefetchBuffer) (h : List ℕ) → p .enabled ≡ true → p .filling ≡ true → n < p .«wait_left»
+  pub filled-within : (read : ℕ → ℕ) (n : ℕ) (p : PrefetchBuffer) (h : List ℕ)
+      → p .enabled ≡ true → p .filling ≡ true → n < p .«wait_left»
       → filled read t n p h ≡ h
   unfolding filled
   filled-within read zero p h on f k = refl
@@ -176,7 +185,8 @@ module _ (t : Waits) where
 
   -- ---- to the end of a beat
 
-  pub ticks-beat : (n : ℕ) (p : PrefetchBuffer) → p .enabled ≡ true → p .filling ≡ true → 1 ≤ n → p .«wait_left» ≡ n → ticks t n p ≡ ended t p
+  pub ticks-beat : (n : ℕ) (p : PrefetchBuffer) → p .enabled ≡ true
+      → p .filling ≡ true → 1 ≤ n → p .«wait_left» ≡ n → ticks t n p ≡ ended t p
   unfolding ticks ended arrived
   ticks-beat zero p on f h e = absurd (omega arith)
   ticks-beat (suc zero) p on f h e = tick1-end p on f (omega arith)
@@ -184,7 +194,8 @@ module _ (t : Waits) where
       ap (ticks t (suc n)) (tick1-wait p on f (omega arith))
       ∙ ticks-beat (suc n) (withWait (p .«wait_left» - 1) p) on f (omega arith) (omega arith)
 
-  pub filled-beat : (read : ℕ → ℕ) (n : ℕ) (p : PrefetchBuffer) (h : List ℕ) → p .enabled ≡ true → p .filling ≡ true → 1 ≤ n → p .«wait_left» ≡ n
+  pub filled-beat : (read : ℕ → ℕ) (n : ℕ) (p : PrefetchBuffer) (h : List ℕ)
+      → p .enabled ≡ true → p .filling ≡ true → 1 ≤ n → p .«wait_left» ≡ n
       → filled read t n p h ≡ set h (slot p) (read (p .«next_addr»))
   unfolding filled
   filled-beat read zero p h on f k e = absurd (omega arith)
@@ -210,7 +221,8 @@ module _ (t : Waits) where
 
   -- ---- and the halfwords, where nothing arrives
 
-  filled-rest : (read : ℕ → ℕ) (n : ℕ) (p : PrefetchBuffer) (h : List ℕ) → tick1 t p ≡ p → arrives t p ≡ false → filled read t n p h ≡ h
+  filled-rest : (read : ℕ → ℕ) (n : ℕ) (p : PrefetchBuffer) (h : List ℕ)
+      → tick1 t p ≡ p → arrives t p ≡ false → filled read t n p h ≡ h
   unfolding filled
   filled-rest read zero p h e a = refl
   filled-rest read (suc n) p h e a = ap₂ (filled read t n) e (if-false _ _ _ a) ∙ filled-rest read n p h e a
@@ -218,11 +230,14 @@ module _ (t : Waits) where
   pub filled-off : (read : ℕ → ℕ) (n : ℕ) (p : PrefetchBuffer) (h : List ℕ) → p .enabled ≡ false → filled read t n p h ≡ h
   unfolding arrives
   filled-off read n p h off =
-      filled-rest read n p h (tick1-off t p off) (ap (λ (s : Bool). s && (ready t p) .filling && leb ((ready t p) .«wait_left») 1) off)
+      filled-rest read n p h (tick1-off t p off)
+      (ap (λ (s : Bool). s && (ready t p) .filling && leb ((ready t p) .«wait_left») 1) off)
 
-  pub filled-still : (read : ℕ → ℕ) (n : ℕ) (p : PrefetchBuffer) (h : List ℕ) → Awake p → p .filling ≡ false → filled read t n p h ≡ h
+  pub filled-still : (read : ℕ → ℕ) (n : ℕ) (p : PrefetchBuffer) (h : List ℕ)
+      → Awake p → p .filling ≡ false → filled read t n p h ≡ h
   unfolding arrives
   filled-still read n p h a f =
       by-test (p .enabled)
-      (λ on. filled-rest read n p h (tick1-still p a f) (ap₂ (λ (s u : Bool). s && u && leb ((ready t p) .«wait_left») 1) on (still-ready p a f)))
+      (λ on. filled-rest read n p h (tick1-still p a f)
+      (ap₂ (λ (s u : Bool). s && u && leb ((ready t p) .«wait_left») 1) on (still-ready p a f)))
       (filled-off read n p h)

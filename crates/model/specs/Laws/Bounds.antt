@@ -10,14 +10,17 @@ use Rattle.model.specs.Region.{decode, page}
 use Rattle.model.specs.Waitcnt.{Waits, nWaits, sWaits, romWaits}
 use Rattle.model.specs.Wait.{nonseqIf, romHalfCycles, ewramCycles, window}
 use Rattle.model.specs.Prefetch.{hit, fetched}
-use Rattle.model.specs.Price.{Beat, BufferBeat, RomBeat, EwramBeat, SramBeat, VideoBeat, FastBeat, beatCycles, price, wide, dataBeatsIn, dataBeats, dataCycles}
-use Rattle.model.specs.Timing.{internal, codeSize, halfBeat, plainBeat, fetchBeatsIn, fetchBeats, idleIn, cartIdle, priceInsn}
+use Rattle.model.specs.Price.{Beat, BufferBeat, RomBeat, EwramBeat, SramBeat, VideoBeat, FastBeat}
+use Rattle.model.specs.Price.{beatCycles, price, wide, dataBeatsIn, dataBeats, dataCycles}
+use Rattle.model.specs.Timing.{internal, codeSize, halfBeat, plainBeat, fetchBeatsIn}
+use Rattle.model.specs.Timing.{fetchBeats, idleIn, cartIdle, priceInsn}
 use Rattle.model.specs.Step.{waitsOf, romHits, hitsIn, codeHits, Timed, timed}
 use Rattle.model.specs.Laws.Choice.{All, either, bit≤1}
 use Rattle.model.specs.declared.Clock.{Clock}
 use Rattle.model.specs.declared.PrefetchBuffer.{PrefetchBuffer}
 use Rattle.model.specs.declared.Region.{Region}
-use Rattle.model.specs.declared.Region.the-variants.{Bios, UnusedLow, Ewram, Iwram, Io, Palette, Vram, Oam, GamePakRomWs0, GamePakRomWs1, GamePakRomWs2, GamePakSram, UnusedHigh}
+use Rattle.model.specs.declared.Region.the-variants.{Bios, UnusedLow, Ewram, Iwram, Io, Palette, Vram, Oam}
+use Rattle.model.specs.declared.Region.the-variants.{GamePakRomWs0, GamePakRomWs1, GamePakRomWs2, GamePakSram, UnusedHigh}
 use Rattle.model.specs.declared.RomWindow.{RomWindow}
 use Rattle.model.specs.declared.RomWindow.the-variants.{Ws0, Ws1, Ws2}
 use Rattle.model.specs.declared.Windowed.{Windowed}
@@ -163,10 +166,12 @@ plain-regular : (a : ℕ) (isa : IsaState) → Regular (plainBeat a isa)
 unfolding plainBeat
 plain-regular a isa = either Regular (eqb (page a) 0x02) tt tt
 
-pub fetch-beats-in : (p : PrefetchBuffer) (a : ℕ) (k : AccessKind) (isa : IsaState) (v : Windowed) → Beats (fetchBeatsIn p a k isa v)
+pub fetch-beats-in : (p : PrefetchBuffer) (a : ℕ) (k : AccessKind) (isa : IsaState) (v : Windowed)
+    → Beats (fetchBeatsIn p a k isa v)
 fetch-beats-in p a k Thumb (In win) = one-beat (halfBeat p a win k) (half-regular p a win k)
 fetch-beats-in p a k Arm (In win) =
-    two-beats (halfBeat p a win k) (halfBeat p (further 2 a) win Seq) (half-regular p a win k) (half-regular p (further 2 a) win Seq)
+    two-beats (halfBeat p a win k) (halfBeat p (further 2 a) win Seq)
+    (half-regular p a win k) (half-regular p (further 2 a) win Seq)
 fetch-beats-in p a k isa Outside = one-beat (plainBeat a isa) (plain-regular a isa)
 
 pub fetch-between : (t : Waits) → SmallWaits t → (p : PrefetchBuffer) (a : ℕ) (k : AccessKind) (isa : IsaState) (v : Windowed)
@@ -240,7 +245,8 @@ step-bounded c (Idle n) = omega arith
 step-bounded c (Fetch a) = omega (arith, bit≤1 (hit (c .prefetch) a))
 step-bounded c (Restart a) = omega arith
 step-bounded c (Instruction isa a op jump) =
-    let f = fetch-between (waitsOf c) (romWaits-small (c .waitcnt)) (c .prefetch) a (nonseqIf (c .«force_next_fetch_n»)) isa (window a) in
+    let f =
+    fetch-between (waitsOf c) (romWaits-small (c .waitcnt)) (c .prefetch) a (nonseqIf (c .«force_next_fetch_n»)) isa (window a) in
     omega (arith, bit≤1 (internal isa op), hitsIn≤2 (c .prefetch) a isa (window a))
 step-bounded c (Pc a) = omega arith
 step-bounded c (Latch v) = omega arith

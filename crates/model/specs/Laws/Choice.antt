@@ -1,5 +1,5 @@
--- Reasoning by the two branches of a test, by the parts of a conjunction of tests, and about every element of a list. Nothing here is
--- about the machine.
+-- Reasoning by the two branches of a test, by the parts of a conjunction of tests, and about every element of a list. Nothing
+-- here is about the machine.
 use mathlib.Core.Path.{_≡_, refl, sym, _∙_}
 use mathlib.Core.Bool.{Bool, true, false, _&&_, _||_, true≢false, false≢true}
 use mathlib.Core.Logic.{_≢_}

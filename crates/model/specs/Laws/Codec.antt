@@ -1,12 +1,14 @@
 -- What is written as bytes is read back, and what was read is written back: for a number of any width, then for a board.
--- `decode-encode` and `encode-decode` say it of a board; what a sound board asks of its bytes besides (length, zero bytes, flags) is here too.
+-- `decode-encode` and `encode-decode` say it of a board; what a sound board asks of its bytes besides (length, zero bytes,
+-- flags) is here too.
 use mathlib.Core.Path.{_≡_, refl, sym, ap, ap₂, _∙_}
 use mathlib.Core.Bool.{Bool, true, false}
 use mathlib.Core.List.{List, [], _∷_, _++_, map}
 use Prim.Native.Nat.{ℕ, zero, suc, _+_, _*_, _/_, _%_, _^_, _≤_, _<_}
 use native.Mathlib.Omega.{arith}
 use native.Mathlib.Numerals.{add-one}
-use native.Mathlib.Nat.{zero-add, add-zero, suc-add, add-assoc, one-mul, mul-assoc, mul-comm, pow-suc, pow-succ', one-le-pow, div-one, div-div-eq-div-mul, mod-eq-of-lt}
+use native.Mathlib.Nat.{zero-add, add-zero, suc-add, add-assoc, one-mul, mul-assoc, mul-comm, pow-suc}
+use native.Mathlib.Nat.{pow-succ', one-le-pow, div-one, div-div-eq-div-mul, mod-eq-of-lt}
 use lib.Arith.{mod-mul}
 use lib.ListN.{length, getD, take, drop, replicate, length-append}
 use lib.Seq.{getD-append-add, drop-cons, take-add, take-all, drop-drop}
@@ -14,7 +16,8 @@ use lib.Dec.{eqb}
 use borrow.Author.Tests.{eqb-true, leb-true}
 use Rattle.model.specs.Base.{bit, sum, bytes, byteAt, number, AllBytes, Field, field, encoded}
 use Rattle.model.specs.Waitcnt.{prefetchEnable}
-use Rattle.model.specs.BoardBytes.{clockOf, halvesFrom, contentsOf, boardOf, clockFields, contentsFields, boardBytes, soundBytes, sound}
+use Rattle.model.specs.BoardBytes.{clockOf, halvesFrom, contentsOf, boardOf, clockFields}
+use Rattle.model.specs.BoardBytes.{contentsFields, boardBytes, soundBytes, sound}
 use Rattle.model.specs.Laws.Choice.{parts}
 use Rattle.model.specs.declared.Clock.{Clock}
 use Rattle.model.specs.declared.Contents.{Contents}
@@ -35,7 +38,8 @@ pub number-bytes : (n v : ℕ) (rest : List ℕ) → number n (bytes n v ++ rest
 number-bytes zero v rest = omega arith
 number-bytes (suc n) v rest =
     let tail : List ℕ = bytes n (v / 256) ++ rest in
-    let high : number n (v % 256 ∷ tail) 1 ≡ v / 256 % 256 ^ n = number-past n (v % 256 ∷ []) tail 0 ∙ number-bytes n (v / 256) rest in
+    let high : number n (v % 256 ∷ tail) 1 ≡ v / 256 % 256 ^ n =
+    number-past n (v % 256 ∷ []) tail 0 ∙ number-bytes n (v / 256) rest in
     rw (high, pow-suc, mod-mul v {m = 256 ^ n} {c = 256} (one-le-pow n 256 (omega arith)) (omega arith)) (omega arith)
 
 pub number-fits : (n v : ℕ) (rest : List ℕ) → v < 256 ^ n → number n (bytes n v ++ rest) 0 ≡ v
@@ -57,7 +61,8 @@ pub number-add : (m n : ℕ) (b : List ℕ) (i : ℕ) → number (m + n) b i ≡
 number-add zero n b i = simp (zero-add, add-zero, one-mul)
 number-add (suc m) n b i =
     let e : i + suc m ≡ i + 1 + m = omega arith in
-    rw (suc-add, number-add m n b (i + 1), pow-suc, e) (omega (arith, mul-assoc (256 ^ m) 256 (number n b (i + 1 + m)), mul-comm (256 ^ m) 256))
+    rw (suc-add, number-add m n b (i + 1), pow-suc, e)
+    (omega (arith, mul-assoc (256 ^ m) 256 (number n b (i + 1 + m)), mul-comm (256 ^ m) 256))
 
 pub bytes-add : (m n v : ℕ) → bytes (m + n) v ≡ bytes m (v % 256 ^ m) ++ bytes n (v / 256 ^ m)
 bytes-add zero n v = simp (zero-add, div-one)

@@ -1,5 +1,5 @@
--- What idle cycles bring in: the buffer grows by the halfwords that arrive, one after the other from next address on; each goes to
--- the next of the eight places, and the other places keep theirs.
+-- What idle cycles bring in: the buffer grows by the halfwords that arrive, one after the other from next address on; each
+-- goes to the next of the eight places, and the other places keep theirs.
 use mathlib.Core.Path.{_≡_, refl, ap, _∙_}
 use mathlib.Core.Logic.{_≢_}
 use mathlib.Core.Bool.{true, false, not, _&&_}
@@ -12,7 +12,8 @@ use lib.Dec.{ltb, leb}
 use Rattle.model.specs.Base.{if_then_else_, further}
 use Rattle.model.specs.Waitcnt.{Waits}
 use Rattle.model.specs.Wait.{window, inWindow}
-use Rattle.model.specs.Prefetch.{capacity, beatIn, startBeat, arrived, ended, advance, ready, tick1, ticks, arrives, slot, filled}
+use Rattle.model.specs.Prefetch.{capacity, beatIn, startBeat, arrived, ended, advance}
+use Rattle.model.specs.Prefetch.{ready, tick1, ticks, arrives, slot, filled}
 use Rattle.model.specs.Laws.Choice.{choose, either, by-test, never, and-true, parts}
 use Rattle.model.specs.declared.PrefetchBuffer.{PrefetchBuffer}
 use Rattle.model.specs.declared.Windowed.{Windowed}
@@ -51,7 +52,8 @@ module _ (t : Waits) where
   ready-same : (p : PrefetchBuffer) → Grown p (ready t p) 0
   unfolding ready
   ready-same p =
-      either (λ (q : PrefetchBuffer). Grown p q 0) (not (p .filling) && ltb (p .count) capacity && inWindow (p .«next_addr»)) (startBeat-same p) (same-size p)
+      either (λ (q : PrefetchBuffer). Grown p q 0)
+      (not (p .filling) && ltb (p .count) capacity && inWindow (p .«next_addr»)) (startBeat-same p) (same-size p)
 
   arrived-one : (p : PrefetchBuffer) → Grown p (arrived p) 1
   unfolding arrived
@@ -68,13 +70,15 @@ module _ (t : Waits) where
   ended-one : (p : PrefetchBuffer) → Grown p (ended t p) 1
   unfolding ended
   ended-one p =
-      either (λ (q : PrefetchBuffer). Grown p q 1) (ltb (p .count + 1) capacity) (then-same (arrived-one p) (startBeat-same (arrived p))) (arrived-one p)
+      either (λ (q : PrefetchBuffer). Grown p q 1) (ltb (p .count + 1) capacity)
+      (then-same (arrived-one p) (startBeat-same (arrived p))) (arrived-one p)
 
   -- a cycle in which a halfword arrives, and one in which none does
   tick1-one : (p : PrefetchBuffer) → arrives t p ≡ true → Grown p (tick1 t p) 1
   unfolding arrives tick1 advance
   tick1-one p e =
-      let on : p .enabled && (ready t p) .filling ≡ true = and-true (p .enabled) ((ready t p) .filling) (search parts) (search parts) in
+      let on : p .enabled && (ready t p) .filling ≡ true =
+      and-true (p .enabled) ((ready t p) .filling) (search parts) (search parts) in
       let last : leb ((ready t p) .«wait_left») 1 ≡ true = search parts in
       choose (λ (q : PrefetchBuffer). Grown p q 1) (p .enabled && (ready t p) .filling)
       (λ h.
@@ -141,7 +145,8 @@ abbrev pub Apart : ℕ → ℕ → ℕ → Type 0
 Apart i place zero = Unit {0}
 Apart i place (suc k) = (i ≢ place % capacity) × Apart i (place + 1) k
 
-pub others-kept : (read : ℕ → ℕ) (place a k : ℕ) (h : List ℕ) (i : ℕ) → Apart i place k → getD (commits read place a k h) i 0 ≡ getD h i 0
+pub others-kept : (read : ℕ → ℕ) (place a k : ℕ) (h : List ℕ) (i : ℕ)
+    → Apart i place k → getD (commits read place a k h) i 0 ≡ getD h i 0
 others-kept read place a zero h i s = refl
 others-kept read place a (suc k) h i s =
     others-kept read (place + 1) (further 2 a) k (set h (place % capacity) (read a)) i (s .1)

@@ -1,6 +1,6 @@
--- Demand 3, of bytes as lent: every accepted run answers what the definitions have, its total is the sum of the cycles in its answers and
--- lies within its limits; and two of them whose sheets and first boards are alike, over any memories, agree in answer bytes 4 to 10 of
--- every step and in the total.
+-- Demand 3, of bytes as lent: every accepted run answers what the definitions have, its total is the sum of the cycles in its
+-- answers and lies within its limits; and two of them whose sheets and first boards are alike, over any memories, agree in
+-- answer bytes 4 to 10 of every step and in the total.
 use mathlib.Core.Path.{_≡_, refl, sym, ap, ap₂, _∙_}
 use mathlib.Core.Logic.{_≢_}
 use mathlib.Core.Bool.{false}
@@ -17,9 +17,11 @@ use Rattle.model.specs.Step.{Timed, timed, answer, run}
 use Rattle.model.specs.Sheet.{recordAt, recordsFrom, recordCount, recordsOf, isaState, stepOf, stepsOf}
 use Rattle.model.specs.BoardBytes.{answerLength, clockOf, answerBytes, answersBytes}
 use Rattle.model.specs.Outcome.{Lent, LentBytes, Outcome, mediaOf, firstState, ran, outcomeBy, outcome}
-use Rattle.model.specs.Alike.{AlikeRecords, AlikeSheets, AlikeBoards, answerAt, answerStart, ReadBack, cyclesFrom, Accounts, Demand3}
+use Rattle.model.specs.Alike.{AlikeRecords, AlikeSheets, AlikeBoards, answerAt, answerStart}
+use Rattle.model.specs.Alike.{ReadBack, cyclesFrom, Accounts, Demand3}
 use Rattle.model.specs.Laws.Choice.{All, choose₂, tests, eqb-ne}
-use Rattle.model.specs.Laws.Times.{Times, times, SameTime, SameTimes, timings, run-timings, run-total, timings-alike, totalOf}
+use Rattle.model.specs.Laws.Times.{Times, times, SameTime, SameTimes, timings, run-timings}
+use Rattle.model.specs.Laws.Times.{run-total, timings-alike, totalOf}
 use Rattle.model.specs.Laws.Run.{run-at}
 use Rattle.model.specs.Laws.Limits.{timings-limits, records-length}
 use Rattle.model.specs.Laws.Fits.{AnswerFits, answers-fit, answers-count}
@@ -41,7 +43,8 @@ unfolding stepOf
 same-step k z f a v u p q h =
     choose₂ SameTime (eqb k 1) (λ e c. refl)
     λ e₁. choose₂ SameTime (eqb k 2) (λ e c. refl)
-    λ e₂. choose₂ SameTime (eqb k 3) (λ e. by-value (λ (x : ℕ). Waitcnt (x % 0x1_0000)) (h (eqb-ne k 2 e₂) (omega (arith, tests))))
+    λ e₂. choose₂ SameTime (eqb k 3)
+    (λ e. by-value (λ (x : ℕ). Waitcnt (x % 0x1_0000)) (h (eqb-ne k 2 e₂) (omega (arith, tests))))
     λ e₃. choose₂ SameTime (eqb k 4) (λ e. by-value Idle (h (eqb-ne k 2 e₂) (omega (arith, tests))))
     λ e₄. choose₂ SameTime (eqb k 5) (λ e c. refl)
     λ e₅. choose₂ SameTime (eqb k 6) (λ e c. refl)
@@ -60,7 +63,17 @@ alike-step r s h c =
     ∙ ap₂ (λ (f a : ℕ). of (s .kind) (s .size) f a) (h .flag) (h .address)
   where
     of : ℕ → ℕ → ℕ → ℕ → Timed
-    of k z f a = timed c (stepOf (record { kind = k; size = z; flag = f; «zero_byte» = s .«zero_byte»; address = a; value = s .value }))
+    of k z f a =
+        timed c
+        (stepOf
+        (record {
+          kind = k;
+          size = z;
+          flag = f;
+          «zero_byte» = s .«zero_byte»;
+          address = a;
+          value = s .value;
+        }))
 
 alike-steps : (s t : List ℕ) (k n : ℕ) → ((j : ℕ) → j < k + n → AlikeRecords (recordAt s j) (recordAt t j))
     → SameTimes (map stepOf (recordsFrom s k n)) (map stepOf (recordsFrom t k n))
@@ -72,7 +85,8 @@ alike-steps s t k (suc n) h =
 -- ---- alike boards have one clock
 
 -- numbers whose bytes agree, each from a place of its own on
-same-number-at : (n i k : ℕ) (b c : List ℕ) → ((j : ℕ) → j < n → byteAt b (i + j) ≡ byteAt c (k + j)) → number n b i ≡ number n c k
+same-number-at : (n i k : ℕ) (b c : List ℕ)
+    → ((j : ℕ) → j < n → byteAt b (i + j) ≡ byteAt c (k + j)) → number n b i ≡ number n c k
 same-number-at zero i k b c h = refl
 same-number-at (suc n) i k b c h =
     ap₂ (λ (x y : ℕ). x + 256 * y) (rw (add-zero i, add-zero k) at (h 0 (omega arith)))
@@ -130,15 +144,18 @@ answer-there (x ∷ xs) rest (suc k) d h =
 module _ (b : List ℕ) (k : ℕ) (x : Answer) (e : take answerLength (drop (answerStart k) b) ≡ answerBytes x) where
   byte-there : (at : ℕ) → at < answerLength → byteAt b (answerStart k + at) ≡ byteAt (answerBytes x) at
   byte-there at h =
-      sym (getD-drop (answerStart k) b at 0) ∙ sym (getD-take answerLength (drop (answerStart k) b) at 0 h) ∙ ap (λ (l : List ℕ). byteAt l at) e
+      sym (getD-drop (answerStart k) b at 0)
+      ∙ sym (getD-take answerLength (drop (answerStart k) b) at 0 h) ∙ ap (λ (l : List ℕ). byteAt l at) e
 
   number-there : (n at : ℕ) → at + n ≤ answerLength → number n b (answerStart k + at) ≡ number n (answerBytes x) at
-  number-there n at h = same-number-at n (answerStart k + at) at b (answerBytes x) (λ j l. rw add-assoc (byte-there (at + j) (omega arith)))
+  number-there n at h =
+      same-number-at n (answerStart k + at) at b (answerBytes x) (λ j l. rw add-assoc (byte-there (at + j) (omega arith)))
 
   read-back : AnswerFits x → ReadBack b k x
   read-back f =
       record {
-        value = rw (add-zero (answerStart k)) at (number-there 4 0 (omega arith)) ∙ number-fits 4 (x .value) [] (omega (arith, f .value));
+        value = rw (add-zero (answerStart k)) at (number-there 4 0 (omega arith))
+            ∙ number-fits 4 (x .value) [] (omega (arith, f .value));
         cycles = number-there 4 4 (omega arith) ∙ number-fits 4 (x .cycles) [] (omega (arith, f .cycles));
         hits = byte-there 8 (omega arith) ∙ mod-eq-of-lt (omega (arith, f .hits));
         count = byte-there 9 (omega arith) ∙ mod-eq-of-lt (omega (arith, f .count));
@@ -187,7 +204,8 @@ map-getD [] k = refl
 map-getD (x ∷ xs) zero = refl
 map-getD (x ∷ xs) (suc k) = map-getD xs k
 
-step-at : (rs : List SheetRecord) (k : ℕ) (d : SheetRecord) → k < length rs → getD (map stepOf rs) k (Latch 0) ≡ stepOf (getD rs k d)
+step-at : (rs : List SheetRecord) (k : ℕ) (d : SheetRecord) → k < length rs
+    → getD (map stepOf rs) k (Latch 0) ≡ stepOf (getD rs k d)
 step-at [] k d h = absurd (omega arith)
 step-at (r ∷ rs) zero d h = refl
 step-at (r ∷ rs) (suc k) d h = step-at rs k d (omega arith)
@@ -208,9 +226,11 @@ module _ (i : Lent) (o : Outcome) (ok : o ≡ outcome i) (zero-number : o .numbe
       run-at (mediaOf i) (firstState i) (stepsOf (i .sheet)) k noAnswer (Latch 0) (omega (arith, n, m))
       ∙ ap (answer (mediaOf i) ((run (mediaOf i) (firstState i) (take k (stepsOf (i .sheet)))) .state))
       (step-at (recordsOf (i .sheet)) k (recordAt (i .sheet) 0) (omega (arith, n))
-      ∙ ap stepOf (record-in (i .sheet) 0 (recordCount (i .sheet)) k (recordAt (i .sheet) 0) h ∙ ap (recordAt (i .sheet)) (omega arith)))
+      ∙ ap stepOf
+      (record-in (i .sheet) 0 (recordCount (i .sheet)) k (recordAt (i .sheet) 0) h ∙ ap (recordAt (i .sheet)) (omega arith)))
 
-  bytes-are : (k : ℕ) → k < recordCount (i .sheet) → take answerLength (drop (answerStart k) (o .answers)) ≡ answerBytes (answerAt i k)
+  bytes-are : (k : ℕ) → k < recordCount (i .sheet)
+      → take answerLength (drop (answerStart k) (o .answers)) ≡ answerBytes (answerAt i k)
   bytes-are k h =
       ap (λ (x : Outcome). take answerLength (drop (answerStart k) (x .answers))) whole
       ∙ answer-there ((ran i) .answers) _ k noAnswer (omega (arith, answers-count i))
@@ -230,7 +250,8 @@ module _ (i : Lent) (o : Outcome) (ok : o ≡ outcome i) (zero-number : o .numbe
       rw whole
       (ap sum
       (sym (cycles-stand ((ran i) .answers) _ (answers-fit i lent accepted))
-      ∙ ap (cyclesFrom (answersBytes ((ran i) .answers) ++ drop (answerLength * recordCount (i .sheet)) (i .answers)) 0) (answers-count i)))
+      ∙ ap (cyclesFrom (answersBytes ((ran i) .answers) ++ drop (answerLength * recordCount (i .sheet)) (i .answers)) 0)
+      (answers-count i)))
 
   pub accounts : Accounts i o
   accounts =
@@ -252,7 +273,8 @@ module _ (i : Lent) (o : Outcome) (ok : o ≡ outcome i) (zero-number : o .numbe
       ∙ time-byte (answerAt i k) at l u
       ∙ ap (λ (x : Answer). byteAt (timesBytes (times x)) (at - 4)) (sym (answer-is k h))
       ∙ ap (λ (t : Times). byteAt (timesBytes t) (at - 4))
-      (map-getD ((ran i) .answers) k ∙ ap (λ (ts : List Times). getD ts k noTimes) (run-timings (mediaOf i) (firstState i) (stepsOf (i .sheet))))
+      (map-getD ((ran i) .answers) k
+      ∙ ap (λ (ts : List Times). getD ts k noTimes) (run-timings (mediaOf i) (firstState i) (stepsOf (i .sheet))))
 
 -- ---- the theorem
 

@@ -5,7 +5,8 @@ use mathlib.Core.List.{List, [], _∷_, _++_}
 use Prim.Native.Nat.{ℕ}
 use lib.ListN.{replicate}
 use Rattle.model.specs.Sheet.{recordAt, recordsFrom, accessSize, isaState, stepOf, sizeFits, kindFault, fieldFault, firstOf}
-use Rattle.model.specs.BoardBytes.{boardLength, clockOf, contentsOf, boardBytes, soundBeat, soundRow, isZero, soundPrefetch, soundBytes, sound}
+use Rattle.model.specs.BoardBytes.{boardLength, clockOf, contentsOf, boardBytes, soundBeat}
+use Rattle.model.specs.BoardBytes.{soundRow, isZero, soundPrefetch, soundBytes, sound}
 use Rattle.model.specs.Outcome.{Lent, Outcome, sizesFit, verdict, ran, outcome}
 use Rattle.model.specs.Laws.Figures.{machine}
 
@@ -49,5 +50,7 @@ pub record Example (o : Outcome) : Type 0 where
   pub store : o .store ≡ replicate 61444 0
 
 pub bench-example : Example (outcome example)
-unfolding machine recordAt recordsFrom accessSize isaState stepOf sizeFits kindFault fieldFault firstOf clockOf contentsOf boardBytes soundBeat soundRow isZero soundPrefetch soundBytes sound sizesFit verdict ran outcome
+unfolding machine recordAt recordsFrom accessSize isaState stepOf sizeFits kindFault fieldFault firstOf
+    clockOf contentsOf boardBytes soundBeat soundRow isZero soundPrefetch soundBytes sound
+    sizesFit verdict ran outcome
 bench-example = record { number = refl; index = refl; total = refl; answers = refl; store = refl }

@@ -1,5 +1,5 @@
--- The starred worked figures of document 01, joined as one theorem about the definitions. Each starts from the fresh board; where a
--- figure is about a large memory, it holds whatever the memory held.
+-- The starred worked figures of document 01, joined as one theorem about the definitions. Each starts from the fresh board;
+-- where a figure is about a large memory, it holds whatever the memory held.
 use mathlib.Core.Path.{_≡_, refl}
 use mathlib.Core.Bool.{false}
 use mathlib.Core.List.{List, [], _∷_, map}
@@ -9,7 +9,8 @@ use Rattle.model.specs.Region.{decode}
 use Rattle.model.specs.Mirror.{ewramOffset, vramOffset, ioOffset}
 use Rattle.model.specs.Waitcnt.{written, prefetchEnable, nWaits, sWaits, romWaits}
 use Rattle.model.specs.Wait.{window, kindAt, romHalfCycles}
-use Rattle.model.specs.Prefetch.{setEnabled, restart, startBeat, arrived, ended, advance, ready, tick1, ticks, arrives, filled, occupied, hit, taken, fetched}
+use Rattle.model.specs.Prefetch.{setEnabled, restart, startBeat, arrived, ended, advance, ready}
+use Rattle.model.specs.Prefetch.{tick1, ticks, arrives, filled, occupied, hit, taken, fetched}
 use Rattle.model.specs.DisableBug.{armInternal, thumbInternal}
 use Rattle.model.specs.Price.{dataBeats}
 use Rattle.model.specs.Timing.{halfBeat, plainBeat, fetchBeats, cartIdle, disableBug, priceInsn}
@@ -17,7 +18,8 @@ use Rattle.model.specs.Video.{objVramBase, isObjVram}
 use Rattle.model.specs.Memory.{byteIn, target}
 use Rattle.model.specs.Load.{sramByte, biosByte, load8, load16, load32}
 use Rattle.model.specs.Store.{put, modeOf, puts}
-use Rattle.model.specs.Step.{Media, Result, setWaitcnt, codeHits, codeFetched, codeClock, halfAt, countStore, run, freshBoard}
+use Rattle.model.specs.Step.{Media, Result, setWaitcnt, codeHits, codeFetched}
+use Rattle.model.specs.Step.{codeClock, halfAt, countStore, run, freshBoard}
 use Rattle.model.specs.declared.Answer.{Answer}
 use Rattle.model.specs.declared.Region.the-variants.{Ewram, Vram}
 use Rattle.model.specs.declared.AccessSize.the-variants.{Byte, Half, Word}
@@ -27,7 +29,8 @@ use Rattle.model.specs.declared.Step.the-variants.{Read, Write, Waitcnt,
 
 -- to unfold this is to unfold the whole machine, in four parts
 unfoldable pub clocks : Unit {0}
-unfolding written prefetchEnable nWaits sWaits romWaits window kindAt romHalfCycles setEnabled restart startBeat arrived ended advance
+unfolding written prefetchEnable nWaits sWaits romWaits window kindAt romHalfCycles
+    setEnabled restart startBeat arrived ended advance
 clocks = tt
 
 unfoldable pub buffers : Unit {0}
@@ -51,7 +54,11 @@ machine = tt
 -- memories of these lengths, no BIOS and no ROM
 abbrev pub media : (io vram sram : ℕ) → Media
 media io vram sram =
-    record { bios = []; rom = []; lengths = record { ewram = 0; iwram = 0; io = io; palette = 0; vram = vram; oam = 0; sram = sram } }
+    record {
+      bios = [];
+      rom = [];
+      lengths = record { ewram = 0; iwram = 0; io = io; palette = 0; vram = vram; oam = 0; sram = sram };
+    }
 
 abbrev pub from : Media → List ℕ → List Step → Result
 from m s xs = run m (record { board = freshBoard; store = s }) xs
@@ -95,7 +102,8 @@ pub record WorkedFigures : Type 0 where
   pub pop-at-ba : cyclesIn (bare (Instruction Thumb 0x0300_0000 0xBA01 false ∷ [])) ≡ 2 ∷ []
   pub bx : cyclesIn (bare (Instruction Arm 0x0300_0000 0xE12F_FF1E false ∷ [])) ≡ 2 ∷ []
   -- the store is SRAM alone
-  pub sram-half : (sram : List ℕ) → (from (media 0 0 8192) sram (Write Half 0x0E00_0001 0x1234 ∷ [])) .state .store ≡ set sram 1 0x12
+  pub sram-half : (sram : List ℕ)
+      → (from (media 0 0 8192) sram (Write Half 0x0E00_0001 0x1234 ∷ [])) .state .store ≡ set sram 1 0x12
   pub rom-end : valuesIn (bare (Read Word 0x0DFF_FFFE ∷ [])) ≡ 0xFFFF_0000 ∷ []
   -- the store is one byte of I/O, which holds the mode, and VRAM. A byte that is dropped isn't counted
   pub object-mode-0 : (vram : List ℕ) → Leaves 0 (vramByte 0 vram 0x0601_0000) (0 ∷ vram)

@@ -1,5 +1,5 @@
--- Nothing is cut off: every answer's value, cycles, hits and count fit their bytes, and the total is at most 4096 (2^32 - 1). The board
--- that an accepted run writes is sound.
+-- Nothing is cut off: every answer's value, cycles, hits and count fit their bytes, and the total is at most 4096 (2^32 - 1).
+-- The board that an accepted run writes is sound.
 use mathlib.Core.Path.{_≡_, refl, ap, _∙_}
 use mathlib.Core.Bool.{Bool, true}
 use mathlib.Core.List.{List, [], _∷_, map}
@@ -10,7 +10,8 @@ use lib.Dec.{eqb, leb}
 use borrow.Author.Tests.{eqb-true, leb-true, eq-eqb, le-leb}
 use Rattle.model.specs.Base.{bit, sum, byteAt, number, AllBytes}
 use Rattle.model.specs.Step.{Media, State, run, timed, stepped, answer, freshBoard}
-use Rattle.model.specs.Sheet.{maxRecords, isShaped, recordStart, recordCount, recordAt, recordsFrom, recordsOf, stepOf, stepsOf}
+use Rattle.model.specs.Sheet.{maxRecords, isShaped, recordStart, recordCount, recordAt}
+use Rattle.model.specs.Sheet.{recordsFrom, recordsOf, stepOf, stepsOf}
 use Rattle.model.specs.BoardBytes.{boardLength, clockOf, boardOf, boardBytes, soundPrefetch, soundBytes, sound}
 use Rattle.model.specs.Outcome.{Lent, LentBytes, Outcome, mediaOf, firstState, ran, outcome}
 use Rattle.model.specs.Laws.Choice.{All, choose, parts, and-true, bit≤1}
@@ -18,7 +19,8 @@ use Rattle.model.specs.Laws.Bounds.{step-bounded}
 use Rattle.model.specs.Laws.Sound.{Stands, SoundClock, clockAfter-sound, fresh-sound}
 use Rattle.model.specs.Laws.SoundTest.{sound-true, true-sound}
 use Rattle.model.specs.Laws.Run.{run-length, run-sound, run-halves}
-use Rattle.model.specs.Laws.Codec.{ClockFits, Fits, number-below, decoded-fits, clock-back, board-length, zero-byte, zero-word}
+use Rattle.model.specs.Laws.Codec.{ClockFits, Fits, number-below, decoded-fits, clock-back}
+use Rattle.model.specs.Laws.Codec.{board-length, zero-byte, zero-word}
 use Rattle.model.specs.Laws.Codec.{force-byte, filling-byte, first-byte}
 use Rattle.model.specs.Laws.Values.{MediaBytes, Held, SmallLatch, changed-fits, stepped-held}
 use Rattle.model.specs.Laws.Limits.{cycles-fit, records-length}
@@ -49,7 +51,8 @@ head-fits c k = go (c .prefetch .count) refl
     go : (n : ℕ) → c .prefetch .count ≡ n → c .prefetch .«head_addr» < 2 ^ 32
     go zero e = let z : c .prefetch .«head_addr» ≡ 0 = k .buffer .empty e in omega arith
     go (suc n) e =
-        let d : Stands (c .prefetch .«head_addr») (c .prefetch .count) (c .prefetch .«next_addr») = k .buffer .stands (omega arith) in
+        let d : Stands (c .prefetch .«head_addr») (c .prefetch .count) (c .prefetch .«next_addr») =
+        k .buffer .stands (omega arith) in
         omega arith
 
 pub clock-fits : (c : Clock) → SoundClock c → ClockFits c
@@ -68,7 +71,8 @@ clock-fits c k =
 written-bit13 : (b : Board) → SoundClock (b .clock) → eqb (number 2 (boardBytes b) 0 / 0x2000 % 2) 0 ≡ true
 unfolding clockOf
 written-bit13 b k =
-    ap (λ (c : Clock). eqb (c .waitcnt / 0x2000 % 2) 0) (clock-back b (clock-fits (b .clock) k)) ∙ eq-eqb (b .clock .waitcnt / 0x2000 % 2) 0 (k .bit13)
+    ap (λ (c : Clock). eqb (c .waitcnt / 0x2000 % 2) 0) (clock-back b (clock-fits (b .clock) k))
+    ∙ eq-eqb (b .clock .waitcnt / 0x2000 % 2) 0 (k .bit13)
 
 written-flag : (x : ℕ) (t : Bool) → x ≡ bit t → leb x 1 ≡ true
 written-flag x t e = le-leb x 1 (rw e (bit≤1 t))
@@ -81,12 +85,14 @@ written-sound b k eight =
     (and-true _ _
     (and-true _ _
     (and-true _ _
-    (and-true _ _ (and-true _ _ (eq-eqb (byteAt (boardBytes b) 7) 0 (zero-byte b)) (eq-eqb (number 4 (boardBytes b) 68) 0 (zero-word b eight)))
+    (and-true _ _
+    (and-true _ _ (eq-eqb (byteAt (boardBytes b) 7) 0 (zero-byte b)) (eq-eqb (number 4 (boardBytes b) 68) 0 (zero-word b eight)))
     (written-flag _ (b .clock .«force_next_fetch_n») (force-byte b)))
     (written-flag _ (b .clock .prefetch .filling) (filling-byte b)))
     (written-flag _ (b .clock .prefetch .«first_beat») (first-byte b)))
     (written-bit13 b k)))
-    (ap (λ (c : Clock). soundPrefetch (c .prefetch)) (clock-back b (clock-fits (b .clock) k)) ∙ true-sound (b .clock .prefetch) (k .buffer))
+    (ap (λ (c : Clock). soundPrefetch (c .prefetch)) (clock-back b (clock-fits (b .clock) k))
+    ∙ true-sound (b .clock .prefetch) (k .buffer))
 
 -- the fresh board is sound
 pub fresh-board : sound (boardBytes freshBoard) ≡ true

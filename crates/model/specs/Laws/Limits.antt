@@ -54,7 +54,8 @@ unfolding timings
 timings-limits c [] = omega arith
 timings-limits c (r ∷ rs) =
     let b : Bounded (recordWeight r) (timed c (stepOf r)) = record-bounded c r in
-    let l : Limits rs (totalOf (timings (clockAfter c (stepOf r)) (map stepOf rs))) = timings-limits (clockAfter c (stepOf r)) rs in
+    let l : Limits rs (totalOf (timings (clockAfter c (stepOf r)) (map stepOf rs))) =
+    timings-limits (clockAfter c (stepOf r)) rs in
     omega arith
 
 -- a record whose value has 32 bits costs no more than they hold

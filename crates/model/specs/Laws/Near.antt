@@ -1,5 +1,5 @@
--- Addresses of one aligned word meet one memory, at neighbouring places of it. So an aligned access, of whatever size, lies in one
--- memory, though each of its bytes is decoded by itself.
+-- Addresses of one aligned word meet one memory, at neighbouring places of it. So an aligned access, of whatever size, lies
+-- in one memory, though each of its bytes is decoded by itself.
 use mathlib.Core.Path.{_≡_, refl, sym, _∙_, ap}
 use mathlib.Core.Bool.{Bool, true, false, not, _&&_}
 use Prim.Native.Nat.{ℕ, _+_, _-_, _*_, _/_, _%_, _≤_, _<_}
@@ -9,7 +9,8 @@ use borrow.Author.Tests.{eqb-true, ltb-true, ltb-false, lt-ltb, le-ltb, leb-true
 use Rattle.model.specs.Base.{if_then_else_, lowered}
 use Rattle.model.specs.Region.{page, decode}
 use Rattle.model.specs.Mirror.{vramOffset, ioOffset}
-use Rattle.model.specs.Memory.{ewramPart, iwramPart, ioPart, palettePart, vramPart, oamPart, sramPart, ioTarget, targetIn, target}
+use Rattle.model.specs.Memory.{ewramPart, iwramPart, ioPart, palettePart, vramPart}
+use Rattle.model.specs.Memory.{oamPart, sramPart, ioTarget, targetIn, target}
 use Rattle.model.specs.declared.Region.{Region}
 use Rattle.model.specs.declared.Region.the-variants.{Bios, UnusedLow, Ewram, Iwram, Io, Palette, Vram, Oam}
 use Rattle.model.specs.declared.Region.the-variants.{GamePakRomWs0, GamePakRomWs1, GamePakRomWs2, GamePakSram, UnusedHigh}

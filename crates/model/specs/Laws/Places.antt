@@ -1,13 +1,15 @@
--- Places and sizes: every place that an address has in a memory lies within its physical size, a memory that it meets lies in the store,
--- and a store whose lengths fit has at most the bytes of the seven memories.
+-- Places and sizes: every place that an address has in a memory lies within its physical size, a memory that it meets lies in
+-- the store, and a store whose lengths fit has at most the bytes of the seven memories.
 use mathlib.Core.Path.{_≡_}
 use mathlib.Core.Bool.{Bool, not, _&&_, true}
 use Prim.Native.Nat.{ℕ, _+_, _%_, _≤_, _<_}
 use native.Mathlib.Omega.{arith}
 use lib.Dec.{eqb, ltb, leb}
 use borrow.Author.Tests.{eqb-true, ltb-true, leb-true}
-use Rattle.model.specs.Region.{page, decode, biosSize, ewramSize, iwramSize, ioSize, paletteSize, vramSize, oamSize, romSize, sramSize}
-use Rattle.model.specs.Mirror.{ewramOffset, iwramOffset, paletteOffset, oamOffset, vramOffset, romOffset, sramOffset, ioOffset, biosOffset}
+use Rattle.model.specs.Region.{page, decode, biosSize, ewramSize, iwramSize, ioSize}
+use Rattle.model.specs.Region.{paletteSize, vramSize, oamSize, romSize, sramSize}
+use Rattle.model.specs.Mirror.{ewramOffset, iwramOffset, paletteOffset, oamOffset, vramOffset}
+use Rattle.model.specs.Mirror.{romOffset, sramOffset, ioOffset, biosOffset}
 use Rattle.model.specs.Memory.{ioPart, lengthsSum, ioTarget, targetIn, target}
 use Rattle.model.specs.Outcome.{sizesFit}
 use Rattle.model.specs.Laws.Choice.{choose, parts}

@@ -1,5 +1,5 @@
--- Document 01's table of what a run gives back, as theorems: each number exactly when its row's condition holds and no earlier one does;
--- the index; and what a refusal leaves.
+-- Document 01's table of what a run gives back, as theorems: each number exactly when its row's condition holds and no
+-- earlier one does; the index; and what a refusal leaves.
 use mathlib.Core.Path.{_≡_, refl, sym, ap, _∙_}
 use mathlib.Core.Bool.{Bool, true, false, not, _||_}
 use mathlib.Core.Logic.{_≢_}
@@ -9,14 +9,18 @@ use native.Mathlib.Omega.{arith}
 use lib.ListN.{length, getD}
 use lib.Dec.{eqb, ltb, lit<}
 use borrow.Author.Tests.{not-true, not-false, le-ltb, ltb-true, ltb-false}
-use Rattle.model.specs.Sheet.{sheetVersion, isMarked, versionOf, isShaped, recordCount, recordAt, recordsFrom, recordsOf, faulty, firstOf}
+use Rattle.model.specs.Sheet.{sheetVersion, isMarked, versionOf, isShaped, recordCount}
+use Rattle.model.specs.Sheet.{recordAt, recordsFrom, recordsOf, faulty, firstOf}
 use Rattle.model.specs.BoardBytes.{answerLength, sound}
-use Rattle.model.specs.Outcome.{Lent, Outcome, sizesFit, faultIndex, rows, verdict, verdictNumber, refusalIndex, outcomeBy, outcome}
+use Rattle.model.specs.Outcome.{Lent, Outcome, sizesFit, faultIndex, rows, verdict}
+use Rattle.model.specs.Outcome.{verdictNumber, refusalIndex, outcomeBy, outcome}
 use Rattle.model.specs.Laws.Choice.{choose, by-test}
 use Rattle.model.specs.Laws.Limits.{records-length}
-use Rattle.model.specs.Laws.Rows.{Exactly, Decides, NoneHolds, Rising, decided, undecided, decides-refusal, none-accepts, zero-accepted}
+use Rattle.model.specs.Laws.Rows.{Exactly, Decides, NoneHolds, Rising, decided, undecided}
+use Rattle.model.specs.Laws.Rows.{decides-refusal, none-accepts, zero-accepted}
 use Rattle.model.specs.declared.Refusal.{Refusal}
-use Rattle.model.specs.declared.Refusal.the-variants.{BadMark, BadVersion, BadShape, BadLengths, UnsoundBoard, ShortAnswers, FaultyRecord}
+use Rattle.model.specs.declared.Refusal.the-variants.{BadMark, BadVersion, BadShape, BadLengths}
+use Rattle.model.specs.declared.Refusal.the-variants.{UnsoundBoard, ShortAnswers, FaultyRecord}
 use Rattle.model.specs.declared.SheetRecord.{SheetRecord}
 use Rattle.model.specs.declared.Verdict.{Verdict}
 use Rattle.model.specs.declared.Verdict.the-variants.{Accepted, Refused}
@@ -29,7 +33,8 @@ fine-first f r rs d n e g zero h = e
 fine-first f r rs d n e g (suc k) h = g k (omega arith)
 
 -- no record before it is found
-pub fine-before : (f : SheetRecord → Bool) (rs : List SheetRecord) (d : SheetRecord) (k : ℕ) → k < firstOf f rs → f (getD rs k d) ≡ false
+pub fine-before : (f : SheetRecord → Bool) (rs : List SheetRecord) (d : SheetRecord) (k : ℕ)
+    → k < firstOf f rs → f (getD rs k d) ≡ false
 unfolding firstOf
 fine-before f [] d = λ k h. absurd (omega arith)
 fine-before f (r ∷ rs) d =
@@ -37,14 +42,17 @@ fine-before f (r ∷ rs) d =
     (λ e. fine-first f r rs d (firstOf f rs) e (fine-before f rs d))
 
 -- and it is, if it is one of them
-pub found-there : (f : SheetRecord → Bool) (rs : List SheetRecord) (d : SheetRecord) → firstOf f rs < length rs → f (getD rs (firstOf f rs) d) ≡ true
+pub found-there : (f : SheetRecord → Bool) (rs : List SheetRecord) (d : SheetRecord)
+    → firstOf f rs < length rs → f (getD rs (firstOf f rs) d) ≡ true
 unfolding firstOf
 found-there f [] d = λ h. absurd (omega arith)
 found-there f (r ∷ rs) d =
-    choose (λ (n : ℕ). n < suc (length rs) → f (getD (r ∷ rs) n d) ≡ true) (f r) (λ e h. e) (λ e h. found-there f rs d (omega arith))
+    choose (λ (n : ℕ). n < suc (length rs) → f (getD (r ∷ rs) n d) ≡ true)
+    (f r) (λ e h. e) (λ e h. found-there f rs d (omega arith))
 
 -- the first that either of two tests finds is the lesser of what each finds: one pass or two
-pub first-either : (f g : SheetRecord → Bool) (rs : List SheetRecord) → firstOf (λ (r : SheetRecord). f r || g r) rs ≡ min (firstOf f rs) (firstOf g rs)
+pub first-either : (f g : SheetRecord → Bool) (rs : List SheetRecord)
+    → firstOf (λ (r : SheetRecord). f r || g r) rs ≡ min (firstOf f rs) (firstOf g rs)
 unfolding firstOf
 first-either f g [] = omega arith
 first-either f g (r ∷ rs) =

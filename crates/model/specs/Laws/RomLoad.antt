@@ -1,5 +1,5 @@
--- The prefetch reads by the bus's halfword load, and only at even addresses inside the ROM windows, where that is a read of the image:
--- what it fills in depends on no other memory.
+-- The prefetch reads by the bus's halfword load, and only at even addresses inside the ROM windows, where that is a read of
+-- the image: what it fills in depends on no other memory.
 use mathlib.Core.Path.{_≡_, refl, ap, ap₂, _∙_}
 use mathlib.Core.Bool.{true, false, not, _&&_}
 use mathlib.Core.List.{List}
@@ -50,7 +50,8 @@ rom-load l b a k e =
 beat-in-rom : (t : Waits) (p : PrefetchBuffer) → Sound p → (ready t p) .filling ≡ true → InRom (p .«next_addr»)
 unfolding ready
 beat-in-rom t p s =
-    choose (λ (q : PrefetchBuffer). q .filling ≡ true → InRom (p .«next_addr»)) (not (p .filling) && ltb (p .count) capacity && inWindow (p .«next_addr»))
+    choose (λ (q : PrefetchBuffer). q .filling ≡ true → InRom (p .«next_addr»))
+    (not (p .filling) && ltb (p .count) capacity && inWindow (p .«next_addr»))
     (λ e f. let i : inWindow (p .«next_addr») ≡ true = search parts in inWindow-true (p .«next_addr») i)
     (λ e f. (s .busy f) .into)
 

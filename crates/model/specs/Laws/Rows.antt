@@ -1,5 +1,5 @@
--- Tables of refusals, whatever their rows: the verdict is that of the first row that holds. A table whose numbers rise is decided by
--- row k exactly when the verdict has row k's number, and no row holds exactly when it has number 0.
+-- Tables of refusals, whatever their rows: the verdict is that of the first row that holds. A table whose numbers rise is
+-- decided by row k exactly when the verdict has row k's number, and no row holds exactly when it has number 0.
 use mathlib.Core.Path.{_≡_, refl, sym, ap, _∙_}
 use mathlib.Core.Bool.{true, false}
 use mathlib.Core.Logic.{_≢_}
@@ -11,7 +11,8 @@ use Rattle.model.specs.Base.{if_then_else_}
 use Rattle.model.specs.Outcome.{Row, byRow, firstRow, refusalNumber, verdictNumber}
 use Rattle.model.specs.Laws.Choice.{choose, by-test, either, if-true, if-false}
 use Rattle.model.specs.declared.Refusal.{Refusal}
-use Rattle.model.specs.declared.Refusal.the-variants.{BadMark, BadVersion, BadShape, BadLengths, UnsoundBoard, ShortAnswers, FaultyRecord}
+use Rattle.model.specs.declared.Refusal.the-variants.{BadMark, BadVersion, BadShape, BadLengths}
+use Rattle.model.specs.declared.Refusal.the-variants.{UnsoundBoard, ShortAnswers, FaultyRecord}
 use Rattle.model.specs.declared.Verdict.{Verdict}
 use Rattle.model.specs.declared.Verdict.the-variants.{Accepted, Refused}
 
@@ -61,7 +62,8 @@ first-append [] ys = refl
 first-append (r ∷ xs) ys =
     by-test (r .holds)
     (λ e. row-holds r _ e ∙ sym (ap (λ (v : Verdict). orElse v (firstRow ys)) (row-holds r (firstRow xs) e)))
-    (λ e. row-passes r _ e ∙ first-append xs ys ∙ sym (ap (λ (v : Verdict). orElse v (firstRow ys)) (row-passes r (firstRow xs) e)))
+    (λ e. row-passes r _ e ∙ first-append xs ys
+    ∙ sym (ap (λ (v : Verdict). orElse v (firstRow ys)) (row-passes r (firstRow xs) e)))
 
 -- ---- no row
 
@@ -73,7 +75,10 @@ pub accepts-none : (rs : List Row) → firstRow rs ≡ Accepted → NoneHolds rs
 accepts-none [] h = tt
 accepts-none (r ∷ rs) h =
     by-test (r .holds)
-    (λ e. let z : Refused (r .refusal) ≡ Accepted = sym (row-holds r (firstRow rs) e) ∙ h in let y : _≡_ {A = ℕ} 0 1 = cc in absurd (omega arith))
+    (λ e.
+    let z : Refused (r .refusal) ≡ Accepted = sym (row-holds r (firstRow rs) e) ∙ h in
+    let y : _≡_ {A = ℕ} 0 1 = cc in
+    absurd (omega arith))
     (λ e. (e, accepts-none rs (sym (row-passes r (firstRow rs) e) ∙ h)))
 
 -- ---- numbers
@@ -100,7 +105,8 @@ decides-refusal [] k d = absurd d
 decides-refusal (r ∷ rs) zero d = row-holds r (firstRow rs) d
 decides-refusal (r ∷ rs) (suc k) d = row-passes r (firstRow rs) (d .0) ∙ decides-refusal rs k (d .1)
 
-number-decides : (n : ℕ) (rs : List Row) → Rising n rs → (k : ℕ) → k < length rs → verdictNumber (firstRow rs) ≡ numberAt rs k → Decides rs k
+number-decides : (n : ℕ) (rs : List Row) → Rising n rs → (k : ℕ)
+    → k < length rs → verdictNumber (firstRow rs) ≡ numberAt rs k → Decides rs k
 number-decides n [] h k l e = absurd (omega arith)
 number-decides n (r ∷ rs) h zero l e =
     by-test (r .holds) (λ t. t)

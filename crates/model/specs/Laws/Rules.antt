@@ -1,5 +1,5 @@
--- Single rules of document 01 that its reader may look for, each as a law about the definitions: WAITCNT's bits, when a fetch hits, when
--- it drains, what a restart leaves, when idle cycles change nothing, and who moves the force flag.
+-- Single rules of document 01 that its reader may look for, each as a law about the definitions: WAITCNT's bits, when a fetch
+-- hits, when it drains, what a restart leaves, when idle cycles change nothing, and who moves the force flag.
 use mathlib.Core.Path.{_≡_, refl, ap, ap₂, _∙_}
 use mathlib.Core.Bool.{Bool, true, false, not, _&&_}
 use mathlib.Core.Logic.{_≢_}
@@ -10,7 +10,8 @@ use borrow.Author.Tests.{eqb-true, eq-eqb, ne-eqb, not-true, le-ltb}
 use Rattle.model.specs.Base.{if_then_else_, further, lowered}
 use Rattle.model.specs.Waitcnt.{Waits, written}
 use Rattle.model.specs.Wait.{window, inWindow, kindAt, romHalfCycles}
-use Rattle.model.specs.Prefetch.{capacity, drained, restartIn, restart, startBeat, arrived, ended, ready, tick1, ticks, occupied, hit, fetched}
+use Rattle.model.specs.Prefetch.{capacity, drained, restartIn, restart, startBeat, arrived}
+use Rattle.model.specs.Prefetch.{ended, ready, tick1, ticks, occupied, hit, fetched}
 use Rattle.model.specs.Timing.{internal, disableBug, priceInsn}
 use Rattle.model.specs.Step.{setWaitcnt, codeClock, clockAfter}
 use Rattle.model.specs.Laws.Choice.{choose, either, if-true, if-false, parts, eqb-ne}
@@ -35,7 +36,14 @@ pub record WrittenBits (old v new : ℕ) : Type 0 where
 
 pub written-bits : (old v : ℕ) → WrittenBits old v (written old v)
 unfolding written
-written-bits old v = record { low = omega arith; bit13 = omega arith; bit14 = omega arith; bit15 = omega arith; above = omega arith }
+written-bits old v =
+    record {
+      low = omega arith;
+      bit13 = omega arith;
+      bit14 = omega arith;
+      bit15 = omega arith;
+      above = omega arith;
+    }
 
 -- a second write of the same value changes nothing
 pub written-twice : (old v : ℕ) → written (written old v) v ≡ written old v
@@ -56,7 +64,11 @@ hit-exactly p a = (
   λ e.
       let some : not (eqb (p .count) 0) ≡ true = search parts in
       let there : eqb (lowered 2 a) (p .«head_addr») ≡ true = search parts in
-      record { on = search parts; some = eqb-ne (p .count) 0 (not-true (eqb (p .count) 0) some); there = eqb-true (lowered 2 a) (p .«head_addr») there },
+      record {
+        on = search parts;
+        some = eqb-ne (p .count) 0 (not-true (eqb (p .count) 0) some);
+        there = eqb-true (lowered 2 a) (p .«head_addr») there;
+      },
   λ h.
       ap₂ (λ (s t : Bool). s && t && eqb (lowered 2 a) (p .«head_addr»)) (h .on) (ap not (ne-eqb (p .count) 0 (h .some)))
       ∙ eq-eqb (lowered 2 a) (p .«head_addr») (h .there),
@@ -100,14 +112,17 @@ pub missed-again : (p : PrefetchBuffer) (a b : ℕ) → hit p a ≡ false → hi
 unfolding fetched
 missed-again p a b m =
     ap (λ (q : PrefetchBuffer). hit q b) (if-false _ _ _ m)
-    ∙ choose (λ (q : PrefetchBuffer). hit q b ≡ false) (occupied p) (λ e. hit-none (drained p) b (empty-none (drained p) refl)) (λ e. hit-none p b e)
+    ∙ choose (λ (q : PrefetchBuffer). hit q b ≡ false) (occupied p)
+    (λ e. hit-none (drained p) b (empty-none (drained p) refl)) (λ e. hit-none p b e)
 
 -- ---- a restart
 
 -- an address without a window leaves the buffer drained
 pub restart-outside : (t : Waits) (p : PrefetchBuffer) (a : ℕ) → window a ≡ Outside → restart t p a ≡ drained p
 unfolding restart
-restart-outside t p a e = ap (λ (v : Windowed). if p .enabled then restartIn t p a v else drained p) e ∙ either (λ (q : PrefetchBuffer). q ≡ drained p) (p .enabled) refl refl
+restart-outside t p a e =
+    ap (λ (v : Windowed). if p .enabled then restartIn t p a v else drained p) e
+    ∙ either (λ (q : PrefetchBuffer). q ≡ drained p) (p .enabled) refl refl
 
 -- the first two beats are nonsequential, the second at the next halfword's window
 pub record TwoNonseqBeats (t : Waits) (p : PrefetchBuffer) (a : ℕ) (first second : RomWindow) : Type 0 where

@@ -1,4 +1,5 @@
--- A run goes step by step: run over xs ++ ys is run over ys after run over xs; it has one answer a step, and keeps what every step keeps.
+-- A run goes step by step: run over xs ++ ys is run over ys after run over xs; it has one answer a step, and keeps what every
+-- step keeps.
 use mathlib.Core.Path.{_≡_, refl, ap, _∙_}
 use mathlib.Core.List.{List, [], _∷_, _++_}
 use Prim.Native.Nat.{ℕ, zero, suc, _+_, _<_}
@@ -58,7 +59,8 @@ run-at m s (x ∷ xs) (suc k) d e h = run-at m (stepped m s x) xs k d e (omega a
 
 -- ---- the clock stays sound
 
-pub run-sound : (m : Media) (s : State) (xs : List Step) → SoundClock (s .board .clock) → SoundClock ((run m s xs) .state .board .clock)
+pub run-sound : (m : Media) (s : State) (xs : List Step)
+    → SoundClock (s .board .clock) → SoundClock ((run m s xs) .state .board .clock)
 run-sound m = run-keeps (λ (s : State). SoundClock (s .board .clock)) m (λ s x k. clockAfter-sound (s .board .clock) x k)
 
 -- ---- the eight halfwords stay eight, and the store keeps its length

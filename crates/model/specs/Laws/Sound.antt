@@ -8,12 +8,15 @@ use borrow.Author.Tests.{not-true}
 use Rattle.model.specs.Base.{further, lowered}
 use Rattle.model.specs.Waitcnt.{Waits, written, prefetchEnable}
 use Rattle.model.specs.Wait.{window, inWindow, kindAt, nonseqIf, romHalfCycles}
-use Rattle.model.specs.Prefetch.{capacity, emptied, newBuffer, setEnabled, restartIn, restart, beatIn, startBeat, arrived, ended, advance, ready, tick1, ticks, occupied, hit, taken, fetched}
-use Rattle.model.specs.Step.{waitsOf, withPrefetch, setWaitcnt, romFetched, fetchedIn, codeFetched, codeClock, Timed, timed, idled, clockAfter, freshBoard}
+use Rattle.model.specs.Prefetch.{capacity, emptied, newBuffer, setEnabled, restartIn, restart, beatIn, startBeat}
+use Rattle.model.specs.Prefetch.{arrived, ended, advance, ready, tick1, ticks, occupied, hit, taken, fetched}
+use Rattle.model.specs.Step.{waitsOf, withPrefetch, setWaitcnt, romFetched, fetchedIn, codeFetched}
+use Rattle.model.specs.Step.{codeClock, Timed, timed, idled, clockAfter, freshBoard}
 use Rattle.model.specs.Laws.Choice.{choose, either, never, tests, and-true-left, and-true-right, parts}
 use Rattle.model.specs.Laws.Window.{InRom, window-in}
 use Rattle.model.specs.Laws.Bounds.{SmallWaits, romWaits-small}
-use Rattle.model.specs.Laws.Switch.{ready-switch, ticks-switch, fetched-switch, restart-switch, setEnabled-switch, codeFetched-switch}
+use Rattle.model.specs.Laws.Switch.{ready-switch, ticks-switch, fetched-switch, restart-switch}
+use Rattle.model.specs.Laws.Switch.{setEnabled-switch, codeFetched-switch}
 use Rattle.model.specs.declared.PrefetchBuffer.{PrefetchBuffer}
 use Rattle.model.specs.declared.Clock.{Clock}
 use Rattle.model.specs.declared.Windowed.{Windowed}
@@ -121,7 +124,8 @@ module _ (t : Waits) (small : SmallWaits t) where
       }
 
   -- a beat starts, where none is in flight and there is room
-  pub startBeat-sound : (p : PrefetchBuffer) → Sound p → p .enabled ≡ true → p .filling ≡ false → p .count ≤ 7 → Sound (startBeat t p)
+  pub startBeat-sound : (p : PrefetchBuffer) → Sound p → p .enabled ≡ true
+      → p .filling ≡ false → p .count ≤ 7 → Sound (startBeat t p)
   unfolding startBeat
   startBeat-sound p s on idle room = beatIn-sound p (window (p .«next_addr»)) s on idle room refl
 
@@ -249,7 +253,8 @@ pub record SoundClock (c : Clock) : Type 0 where
   pub buffer : Sound (c .prefetch)
 
 -- a step that changes only the buffer
-withPrefetch-sound : (c : Clock) (p : PrefetchBuffer) → SoundClock c → p .enabled ≡ c .prefetch .enabled → Sound p → SoundClock (withPrefetch c p)
+withPrefetch-sound : (c : Clock) (p : PrefetchBuffer) → SoundClock c
+    → p .enabled ≡ c .prefetch .enabled → Sound p → SoundClock (withPrefetch c p)
 withPrefetch-sound c p k e s = record { size = k .size; bit13 = k .bit13; switch = e ∙ k .switch; buffer = s }
 
 module _ (t : Waits) (small : SmallWaits t) where
@@ -287,9 +292,15 @@ timed-sound c (Waitcnt v) k = setWaitcnt-sound c v k
 timed-sound c (Idle n) k = k
 timed-sound c (Fetch a) k = withPrefetch-sound c _ k (fetched-switch (c .prefetch) a) (fetched-sound (c .prefetch) a (k .buffer))
 timed-sound c (Restart a) k =
-    withPrefetch-sound c _ k (restart-switch (waitsOf c) (c .prefetch) a) (restart-sound (waitsOf c) (romWaits-small (c .waitcnt)) (c .prefetch) a)
+    withPrefetch-sound c _ k (restart-switch (waitsOf c) (c .prefetch) a)
+    (restart-sound (waitsOf c) (romWaits-small (c .waitcnt)) (c .prefetch) a)
 timed-sound c (Instruction isa a op jump) k =
-    record { size = k .size; bit13 = k .bit13; switch = codeFetched-switch c isa a ∙ k .switch; buffer = codeFetched-sound c isa a k }
+    record {
+      size = k .size;
+      bit13 = k .bit13;
+      switch = codeFetched-switch c isa a ∙ k .switch;
+      buffer = codeFetched-sound c isa a k;
+    }
 timed-sound c (Pc a) k = k
 timed-sound c (Latch v) k = k
 

@@ -9,7 +9,8 @@ use Rattle.model.specs.Base.{same}
 use Rattle.model.specs.Wait.{inWindow}
 use Rattle.model.specs.Prefetch.{newBuffer}
 use Rattle.model.specs.BoardBytes.{soundPrefetch, soundBeat, soundRow, isZero}
-use Rattle.model.specs.Laws.Choice.{choose, by-test, if-true, if-false, tests, parts, and-true, or-true-left, or-true-right, or-right}
+use Rattle.model.specs.Laws.Choice.{choose, by-test, if-true, if-false, tests, parts}
+use Rattle.model.specs.Laws.Choice.{and-true, or-true-left, or-true-right, or-right}
 use Rattle.model.specs.Laws.Window.{InRom, inWindow-true, true-inWindow}
 use Rattle.model.specs.Laws.Sound.{Sound, Busy, Stands}
 use Rattle.model.specs.declared.PrefetchBuffer.{PrefetchBuffer}
@@ -33,10 +34,12 @@ true-beat p s =
     (λ f.
     let b : Busy p = s .busy f in
     and-true _ _ (true-same (p .filling) _ (f ∙ sym (le-leb 1 (p .«wait_left») (b .waits))))
-    (or-true-right (not (p .filling)) _ (and-true _ _ (le-leb (p .count) 7 (b .room)) (true-inWindow (p .«next_addr») (b .into)))))
+    (or-true-right (not (p .filling)) _
+    (and-true _ _ (le-leb (p .count) 7 (b .room)) (true-inWindow (p .«next_addr») (b .into)))))
     (λ f.
     let z : p .«wait_left» ≡ 0 = s .still f in
-    and-true _ _ (true-same (p .filling) _ (f ∙ sym (lt-leb 1 (p .«wait_left») (omega arith)))) (or-true-left (not (p .filling)) _ (ap not f)))
+    and-true _ _ (true-same (p .filling) _ (f ∙ sym (lt-leb 1 (p .«wait_left») (omega arith))))
+    (or-true-left (not (p .filling)) _ (ap not f)))
 
 true-row : (p : PrefetchBuffer) → Sound p → soundRow p ≡ true
 unfolding soundRow
@@ -61,11 +64,13 @@ true-sound p s =
     (and-true _ _
     (and-true _ _
     (and-true _ _
-    (and-true _ _ (and-true _ _ (le-leb (p .head) 7 (s .head≤7)) (le-leb (p .count) 8 (s .count≤8))) (le-leb (p .«wait_left») 9 (s .wait≤9)))
+    (and-true _ _ (and-true _ _ (le-leb (p .head) 7 (s .head≤7)) (le-leb (p .count) 8 (s .count≤8)))
+    (le-leb (p .«wait_left») 9 (s .wait≤9)))
     (eq-eqb (p .«next_addr» % 2) 0 (s .even)))
     (true-beat p s))
     (true-row p s))
-    (by-test (p .enabled) (or-true-left (p .enabled) (isZero p)) (λ e. or-true-right (p .enabled) (isZero p) (true-zero p (s .off e))))
+    (by-test (p .enabled) (or-true-left (p .enabled) (isZero p))
+    (λ e. or-true-right (p .enabled) (isZero p) (true-zero p (s .off e))))
 
 -- ---- and what it says
 
@@ -98,7 +103,8 @@ stands-true : (p : PrefetchBuffer) → soundRow p ≡ true → p .«next_addr» 
     → Stands (p .«head_addr») (p .count) (p .«next_addr»)
 unfolding soundRow
 stands-true p t v l =
-    let u : inWindow (p .«head_addr») && inWindow (p .«next_addr» - 2) && eqb (p .«head_addr» + 2 * p .count) (p .«next_addr») ≡ true =
+    let u : inWindow (p .«head_addr») && inWindow (p .«next_addr» - 2)
+    && eqb (p .«head_addr» + 2 * p .count) (p .«next_addr») ≡ true =
     sym (if-false _ _ _ (ne-eqb (p .count) 0 (λ e. omega arith))) ∙ t in
     let a : inWindow (p .«head_addr») ≡ true = search parts in
     let b : inWindow (p .«next_addr» - 2) ≡ true = search parts in

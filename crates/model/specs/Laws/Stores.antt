@@ -1,5 +1,5 @@
--- Rules of stores, shown once for all sizes: bytes of the store that no rule names stay, what SRAM drops, how many halfwords count; and
--- wide stores by their parts, as the Rust does them.
+-- Rules of stores, shown once for all sizes: bytes of the store that no rule names stay, what SRAM drops, how many halfwords
+-- count; and wide stores by their parts, as the Rust does them.
 use mathlib.Core.Path.{_≡_, refl, sym, _∙_, ap, ap₂}
 use mathlib.Core.Bool.{Bool, true, false, true≢false, false≢true}
 use mathlib.Core.Logic.{_⊎_, inl, inr}
@@ -50,7 +50,8 @@ put-past : (p : Part) (i v : ℕ) → p .size ≤ i → put p i v ≡ []
 unfolding put
 put-past p i v h = if-false _ _ _ (le-ltb i (p .size) h)
 
-pub sram-past : (l : Lengths) (mode : ℕ) (z : AccessSize) (a v : ℕ) → decode a ≡ GamePakSram → l .sram ≤ sramOffset a → puts l mode z a v ≡ []
+pub sram-past : (l : Lengths) (mode : ℕ) (z : AccessSize) (a v : ℕ)
+    → decode a ≡ GamePakSram → l .sram ≤ sramOffset a → puts l mode z a v ≡ []
 unfolding target puts
 sram-past l mode z a v e h = rw e (put-past (sramPart l) (sramOffset a) (byteOf (a % sizeBytes z) v) h)
 
@@ -81,10 +82,11 @@ putBytes-four p i v =
     rw (place, high) (regroup (put p i (v % 256)) (put p (i + 1) (v / 256 % 256)) (putBytes p (i + 2) 2 (v / 0x1_0000)))
   where
     regroup : (xs ys zs : List Put) → xs ++ (ys ++ zs) ≡ (xs ++ (ys ++ [])) ++ zs
-    regroup xs ys zs = sym (append-assoc xs ys zs) ∙ ap (λ (w : List Put). w ++ zs) (ap (λ (w : List Put). xs ++ w) (sym (append-nil ys)))
+    regroup xs ys zs =
+        sym (append-assoc xs ys zs) ∙ ap (λ (w : List Put). w ++ zs) (ap (λ (w : List Put). xs ++ w) (sym (append-nil ys)))
 
--- ---- wide stores by their parts: the Rust's halfword store outside video memory and SRAM is two byte stores, and its word store outside
--- SRAM two halfword stores, at aligned addresses, each decoded by itself and in the display mode of its moment
+-- ---- wide stores by their parts: the Rust's halfword store outside video memory and SRAM is two byte stores, and its word
+-- store outside SRAM two halfword stores, at aligned addresses, each decoded by itself and in the display mode of its moment
 
 -- the address as given is one of its word's
 own-place : (l : Lengths) (a : ℕ) → target l a ≡ moved (target l a) (a % 4)
@@ -147,7 +149,8 @@ pub half-by-bytes : (l : Lengths) (k m n a v : ℕ) → a < 2 ^ 32 → byBytes (
 unfolding puts
 half-by-bytes l k m n a v s h =
     let f : further 1 (lowered 2 a) ≡ lowered 2 a + 1 = omega arith in
-    rw (f, near l a (lowered 2 a) (omega arith), near l a (lowered 2 a + 1) (omega arith)) (half-at k m n a v (target l a) (own-place l a) h)
+    rw (f, near l a (lowered 2 a) (omega arith), near l a (lowered 2 a + 1) (omega arith))
+    (half-at k m n a v (target l a) (own-place l a) h)
 
 pair-at : (p : Part) (i a v : ℕ) → i ≡ around i (a % 4)
     → putAligned p (around i (lowered 4 a % 4)) 2 (v % 0x1_0000)
@@ -156,7 +159,8 @@ pair-at : (p : Part) (i a v : ℕ) → i ≡ around i (a % 4)
 pair-at p i a v at =
     let first : lowered 2 (around i (lowered 4 a % 4)) ≡ lowered 4 i = omega arith in
     let second : lowered 2 (around i ((lowered 4 a + 2) % 4)) ≡ lowered 4 i + 2 = omega arith in
-    rw (first, second, two-low p (lowered 4 i) v, two-low p (lowered 4 i + 2) (v / 0x1_0000)) (sym (putBytes-four p (lowered 4 i) v))
+    rw (first, second, two-low p (lowered 4 i) v, two-low p (lowered 4 i + 2) (v / 0x1_0000))
+    (sym (putBytes-four p (lowered 4 i) v))
 
 word-at : (k m n a v : ℕ) (t : Target) → t ≡ moved t (a % 4) → isSram t ≡ false
     → putsAt m Half (lowered 4 a) (v % 0x1_0000) (moved t (lowered 4 a % 4))
@@ -170,11 +174,13 @@ word-at k m n a v (Video x p i) e h = pair-at p i a v cc
 word-at k m n a v (Sram p i) e h = absurd (true≢false h)
 
 pub word-by-halves : (l : Lengths) (k m n a v : ℕ) → a < 2 ^ 32 → isSram (target l a) ≡ false
-    → puts l m Half (lowered 4 a) (v % 0x1_0000) ++ puts l n Half (further 2 (lowered 4 a)) (v / 0x1_0000 % 0x1_0000) ≡ puts l k Word a v
+    → puts l m Half (lowered 4 a) (v % 0x1_0000) ++ puts l n Half (further 2 (lowered 4 a)) (v / 0x1_0000 % 0x1_0000)
+    ≡ puts l k Word a v
 unfolding puts
 word-by-halves l k m n a v s h =
     let f : further 2 (lowered 4 a) ≡ lowered 4 a + 2 = omega arith in
-    rw (f, near l a (lowered 4 a) (omega arith), near l a (lowered 4 a + 2) (omega arith)) (word-at k m n a v (target l a) (own-place l a) h)
+    rw (f, near l a (lowered 4 a) (omega arith), near l a (lowered 4 a + 2) (omega arith))
+    (word-at k m n a v (target l a) (own-place l a) h)
 
 -- it counts as they do
 count-at : (k m n i j : ℕ) (t : Target) → videoCount m Half (moved t i) + videoCount n Half (moved t j) ≡ videoCount k Word t
@@ -186,7 +192,8 @@ count-at k m n i j (Video y p x) = refl
 count-at k m n i j (Sram p x) = refl
 
 pub word-count : (l : Lengths) (k m n a : ℕ) → a < 2 ^ 32
-    → videoCount m Half (target l (lowered 4 a)) + videoCount n Half (target l (further 2 (lowered 4 a))) ≡ videoCount k Word (target l a)
+    → videoCount m Half (target l (lowered 4 a)) + videoCount n Half (target l (further 2 (lowered 4 a)))
+    ≡ videoCount k Word (target l a)
 word-count l k m n a s =
     let f : further 2 (lowered 4 a) ≡ lowered 4 a + 2 = omega arith in
     rw (f, near l a (lowered 4 a) (omega arith), near l a (lowered 4 a + 2) (omega arith))

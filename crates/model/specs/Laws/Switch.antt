@@ -6,7 +6,8 @@ use lib.Dec.{ltb, leb}
 use Rattle.model.specs.Base.{if_then_else_, further}
 use Rattle.model.specs.Waitcnt.{Waits}
 use Rattle.model.specs.Wait.{window, inWindow}
-use Rattle.model.specs.Prefetch.{capacity, emptied, setEnabled, restartIn, restart, beatIn, startBeat, arrived, ended, advance, ready, tick1, ticks, occupied, hit, taken, fetched}
+use Rattle.model.specs.Prefetch.{capacity, emptied, setEnabled, restartIn, restart, beatIn, startBeat, arrived}
+use Rattle.model.specs.Prefetch.{ended, advance, ready, tick1, ticks, occupied, hit, taken, fetched}
 use Rattle.model.specs.Step.{waitsOf, romFetched, fetchedIn, codeFetched}
 use Rattle.model.specs.Laws.Choice.{choose, either}
 use Rattle.model.specs.declared.PrefetchBuffer.{PrefetchBuffer}
@@ -41,7 +42,8 @@ module _ (t : Waits) where
 
   restart-anew : (p q : PrefetchBuffer) (a : ℕ) → p .enabled ≡ q .enabled → restart t p a ≡ restart t q a
   unfolding restart
-  restart-anew p q a e = ap₂ (λ (on : Bool) (r : PrefetchBuffer). if on then r else emptied on) e (restartIn-anew p q a (window a) e)
+  restart-anew p q a e =
+      ap₂ (λ (on : Bool) (r : PrefetchBuffer). if on then r else emptied on) e (restartIn-anew p q a (window a) e)
 
   beatIn-switch : (p : PrefetchBuffer) (v : Windowed) → Keeps p (beatIn t p v)
   beatIn-switch p (In win) = refl
@@ -61,7 +63,8 @@ module _ (t : Waits) where
 
   pub ready-switch : (p : PrefetchBuffer) → (ready t p) .enabled ≡ p .enabled
   unfolding ready
-  ready-switch p = either (Keeps p) (not (p .filling) && ltb (p .count) capacity && inWindow (p .«next_addr»)) (startBeat-switch p) refl
+  ready-switch p =
+      either (Keeps p) (not (p .filling) && ltb (p .count) capacity && inWindow (p .«next_addr»)) (startBeat-switch p) refl
 
   pub tick1-switch : (p : PrefetchBuffer) → (tick1 t p) .enabled ≡ p .enabled
   unfolding tick1

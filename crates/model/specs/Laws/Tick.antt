@@ -1,4 +1,5 @@
--- Idle cycles add up: IDLE 0 is the identity, and IDLE a then IDLE b is IDLE a + b, for the clock, the halfwords and the whole state.
+-- Idle cycles add up: IDLE 0 is the identity, and IDLE a then IDLE b is IDLE a + b, for the clock, the halfwords and the
+-- whole state.
 use mathlib.Core.Path.{_≡_, refl}
 use mathlib.Core.List.{List}
 use Prim.Native.Nat.{ℕ, zero, suc, _+_}
@@ -37,7 +38,8 @@ idle-add m s i j = rw (ticks-add, filled-add)
 pub record SameWaits (c : Clock) (t : Timed) : Type 0 where
   pub buffer : ticks (waitsOf c) (t .idle) (t .clock .prefetch) ≡ ticks (waitsOf (t .clock)) (t .idle) (t .clock .prefetch)
   pub halves : (read : ℕ → ℕ) (h : List ℕ)
-      → filled read (waitsOf c) (t .idle) (t .clock .prefetch) h ≡ filled read (waitsOf (t .clock)) (t .idle) (t .clock .prefetch) h
+      → filled read (waitsOf c) (t .idle) (t .clock .prefetch) h
+      ≡ filled read (waitsOf (t .clock)) (t .idle) (t .clock .prefetch) h
 
 pub same-waits : (c : Clock) (x : Step) → SameWaits c (timed c x)
 unfolding ticks filled setWaitcnt codeClock

@@ -1,4 +1,5 @@
--- The core of demand 3: what an answer shows of time depends on the clock and on the steps alone. `timings` is the run without memories.
+-- The core of demand 3: what an answer shows of time depends on the clock and on the steps alone. `timings` is the run
+-- without memories.
 use mathlib.Core.Path.{_≡_, refl, sym, ap, _∙_}
 use mathlib.Core.Bool.{Bool}
 use mathlib.Core.List.{List, [], _∷_, map, map-map}

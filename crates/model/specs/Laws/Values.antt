@@ -1,5 +1,5 @@
--- Bytes stay bytes: over memories of bytes every load fits its size, every byte that lands is one, and every halfword that the prefetch
--- brings in has 16 bits. So each value that a run answers fits its field.
+-- Bytes stay bytes: over memories of bytes every load fits its size, every byte that lands is one, and every halfword that
+-- the prefetch brings in has 16 bits. So each value that a run answers fits its field.
 use mathlib.Core.Path.{_≡_, refl, sym, ap, _∙_}
 use mathlib.Core.Bool.{Bool}
 use mathlib.Core.List.{List, [], _∷_, _++_}
@@ -18,7 +18,8 @@ use Rattle.model.specs.Video.{fills}
 use Rattle.model.specs.Memory.{byteIn, target, isSram}
 use Rattle.model.specs.Load.{Bus, sramByte, biosByte, byteFrom, load8, load16, load32, load}
 use Rattle.model.specs.Store.{Put, landed, put, putBytes, videoPuts, putsAt, puts}
-use Rattle.model.specs.Step.{Media, State, busOf, waitsOf, halfAt, countedIn, countedAt, countStore, Timed, timed, Changed, changed, stepped}
+use Rattle.model.specs.Step.{Media, State, busOf, waitsOf, halfAt, countedIn, countedAt}
+use Rattle.model.specs.Step.{countStore, Timed, timed, Changed, changed, stepped}
 use Rattle.model.specs.Laws.Choice.{All, either}
 use Rattle.model.specs.Laws.Bounds.{cartIdle≤7}
 use Rattle.model.specs.declared.PrefetchBuffer.{PrefetchBuffer}
@@ -64,12 +65,14 @@ module _ (l : Lengths) (b : Bus) (h : BusBytes b) where
   pub load16-fits : (a : ℕ) → load16 l b a < 0x1_0000
   unfolding load16
   load16-fits a =
-      either (λ (n : ℕ). n < 0x1_0000) (isSram (target l a)) (omega (arith, load8-fits a)) (omega (arith, load8-fits a, load8-fits (further 1 a)))
+      either (λ (n : ℕ). n < 0x1_0000) (isSram (target l a)) (omega (arith, load8-fits a))
+      (omega (arith, load8-fits a, load8-fits (further 1 a)))
 
   load32-fits : (a : ℕ) → load32 l b a < 2 ^ 32
   unfolding load32
   load32-fits a =
-      either (λ (n : ℕ). n < 2 ^ 32) (isSram (target l a)) (omega (arith, load8-fits a)) (omega (arith, load16-fits a, load16-fits (further 2 a)))
+      either (λ (n : ℕ). n < 2 ^ 32) (isSram (target l a)) (omega (arith, load8-fits a))
+      (omega (arith, load16-fits a, load16-fits (further 2 a)))
 
   pub load-fits : (z : AccessSize) (a : ℕ) → load l b z a < 2 ^ 32
   load-fits Byte a = omega (arith, load8-fits a)
@@ -104,7 +107,8 @@ put-byte p i v h = either (λ (ps : List Put). All PutByte ps) (ltb i (p .size))
 put-bytes : (p : Part) (i n v : ℕ) → All PutByte (putBytes p i n v)
 put-bytes p i zero v = tt
 put-bytes p i (suc n) v =
-    all-append (put p i (v % 256)) (putBytes p (i + 1) n (v / 256)) (put-byte p i (v % 256) (omega arith)) (put-bytes p (i + 1) n (v / 256))
+    all-append (put p i (v % 256)) (putBytes p (i + 1) n (v / 256))
+    (put-byte p i (v % 256) (omega arith)) (put-bytes p (i + 1) n (v / 256))
 
 video-bytes : (f : Bool) (z : AccessSize) (p : Part) (i v : ℕ) → All PutByte (videoPuts f z p i v)
 video-bytes f Byte p i v = either (λ (ps : List Put). All PutByte ps) f (put-bytes p (lowered 2 i) 2 (0x0101 * (v % 256))) tt
@@ -131,7 +135,8 @@ unfolding filled
 filled-below read t r zero p h k = k
 filled-below read t r (suc n) p h k =
     filled-below read t r n (tick1 t p) _
-    (either (λ (x : List ℕ). (j : ℕ) → getD x j 0 < 0x1_0000) (arrives t p) (set-below 0x1_0000 h (slot p) (read (p .«next_addr»)) (r _) k) k)
+    (either (λ (x : List ℕ). (j : ℕ) → getD x j 0 < 0x1_0000) (arrives t p)
+    (set-below 0x1_0000 h (slot p) (read (p .«next_addr»)) (r _) k) k)
 
 -- ---- a step
 
@@ -178,13 +183,18 @@ module _ (m : Media) (b : MediaBytes m) (s : State) (h : Held s) where
   half-fits : (a : ℕ) → halfAt (s .board) a < 2 ^ 32
   unfolding halfAt
   half-fits a =
-      either (λ (n : ℕ). n < 2 ^ 32) (hit (s .board .clock .prefetch) a) (omega (arith, h .halves (s .board .clock .prefetch .head))) (omega arith)
+      either (λ (n : ℕ). n < 2 ^ 32) (hit (s .board .clock .prefetch) a)
+      (omega (arith, h .halves (s .board .clock .prefetch .head))) (omega arith)
 
   pub changed-fits : (x : Step) → SmallLatch x → Fitting (changed m s x)
   unfolding countStore priceInsn
   changed-fits (Read z a) k = answering-fits _ (load-fits (m .lengths) (busOf m s) bus-bytes z a)
   changed-fits (Write z a v) k =
-      record { value = omega arith; latch = rw (count-latch (target (m .lengths) a)) (h .latch); puts = puts-bytes (m .lengths) _ z a v }
+      record {
+        value = omega arith;
+        latch = rw (count-latch (target (m .lengths) a)) (h .latch);
+        puts = puts-bytes (m .lengths) _ z a v;
+      }
   changed-fits (Waitcnt v) k = answering-fits 0 (omega arith)
   changed-fits (Idle n) k = answering-fits 0 (omega arith)
   changed-fits (Fetch a) k = answering-fits _ (half-fits a)
@@ -199,6 +209,7 @@ module _ (m : Media) (b : MediaBytes m) (s : State) (h : Held s) where
       let t : Timed = timed (s .board .clock) x in
       record {
         store = landed-bytes (s .store) ((changed m s x) .puts) (h .store) (f .puts);
-        halves = filled-below _ (waitsOf (t .clock)) (load16-fits (m .lengths) (busOf m s) bus-bytes) (t .idle) (t .clock .prefetch) (s .board .halves) (h .halves);
+        halves = filled-below _ (waitsOf (t .clock)) (load16-fits (m .lengths) (busOf m s) bus-bytes)
+            (t .idle) (t .clock .prefetch) (s .board .halves) (h .halves);
         latch = f .latch;
       }

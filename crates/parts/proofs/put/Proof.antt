@@ -10,7 +10,8 @@ start c = c .before .before .before .before .before .before
 
 returns : tie.Need-returns
 returns c =
-    stored-part (start c .args .store .now) (start c .args .part) (start c .args .index) (start c .args .value) (c .before .before .write-slice .ensures)
+    let a = start c .args in
+    stored-part (a .store .now) (a .part) (a .index) (a .value) (c .before .before .write-slice .ensures)
 
 pub put-spec : {M : Type 1} → statement M
 put-spec =

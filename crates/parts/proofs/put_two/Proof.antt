@@ -13,7 +13,8 @@ start c = (first c) .before .before .before
 
 returns : tie.Need-returns
 returns c =
-    two-land (start c .args .store .now) (start c .args .part) (start c .args .index) (start c .args .value) ((first c) .put .ensures) (c .before .before .put2 .ensures)
+    let a = start c .args in
+    two-land (a .store .now) (a .part) (a .index) (a .value) ((first c) .put .ensures) (c .before .before .put2 .ensures)
 
 pub put-two-spec : {M : Type 1} → statement M
 put-two-spec =

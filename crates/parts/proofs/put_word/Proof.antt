@@ -14,7 +14,9 @@ start c = (first c) .before .before .before
 
 returns : tie.Need-returns
 returns c =
-    four-land (start c .args .store .now) (start c .args .part) (lowered 4 (start c .args .index)) (start c .args .value) ((first c) .put-two .ensures) (c .before .before .put-two2 .ensures)
+    let a = start c .args in
+    four-land (a .store .now) (a .part) (lowered 4 (a .index)) (a .value) ((first c) .put-two .ensures)
+    (c .before .before .put-two2 .ensures)
 
 pub put-word-spec : {M : Type 1} → statement M
 put-word-spec =

@@ -16,7 +16,9 @@ returns-4 : tie.Need-returns-4
 returns-4 c = simp (c .iwram-offset .ensures, c .before .iwram .ensures, c .before .before .enum-told4 .given .1)
 
 returns-5 : tie.Need-returns-5
-returns-5 c = simp (c .io-target .ensures, c .before .io-offset .ensures, c .before .before .io .ensures, c .before .before .before .enum-told5 .given .1)
+returns-5 c =
+    let lent = c .before .before in
+    simp (c .io-target .ensures, c .before .io-offset .ensures, lent .io .ensures, lent .before .enum-told5 .given .1)
 
 returns-6 : tie.Need-returns-6
 returns-6 c = simp (c .palette-offset .ensures, c .before .palette .ensures, c .before .before .enum-told6 .given .1)

@@ -7,7 +7,9 @@ use Rattle.parts.proofs.target_of.Tie as tie
 
 returns : tie.Need-returns
 unfolding target
-returns c = c .target-in .ensures ∙ ap (targetIn (c .before .before .args .lengths) (c .before .before .args .addr)) (c .before .decode .ensures)
+returns c =
+    let a = c .before .before .args in
+    c .target-in .ensures ∙ ap (targetIn (a .lengths) (a .addr)) (c .before .decode .ensures)
 
 pub target-of-spec : {M : Type 1} → statement M
 target-of-spec = tie.close (tie.spec

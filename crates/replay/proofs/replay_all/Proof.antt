@@ -1,6 +1,8 @@
 -- `replay_all` is safe and ends: no more cases agree than were done, and the measure is the cases left. Assumes nothing.
 use Prim.Native.Nat.{_-_, _≤_}
+use native.Mathlib.Omega.{arith}
 use borrow.Author.Needs.{needs}
+use Rattle.model.specs.Laws.Choice.{bit≤1}
 use Rattle.replay.proofs.replay_all.Statement.{statement}
 use Rattle.replay.proofs.replay_all.Tie as tie
 
@@ -25,11 +27,15 @@ tell-requires c κs = search needs
 returns : tie.Need-returns Inv-loop μ-loop
 returns c = search needs
 
-one-if-requires : tie.Need-one-if-requires Inv-loop μ-loop
-one-if-requires c κs = search needs
+bit-requires : tie.Need-bit-requires Inv-loop μ-loop
+bit-requires c κs = search needs
+
+-- a case that agrees adds 1
+few : (c : tie.After-bit Inv-loop μ-loop) → c .bit .result ≤ 1
+few c = omega (arith, c .bit .ensures, bit≤1 (c .before .before .before .replay-case .result .same))
 
 add-agree : tie.Need-add-agree Inv-loop μ-loop
-add-agree c = search needs
+add-agree c = omega (arith, few c)
 
 add-case : tie.Need-add-case Inv-loop μ-loop
 add-case c = search needs
@@ -38,7 +44,7 @@ loop-less : tie.Need-loop-less Inv-loop μ-loop
 loop-less c = search needs
 
 loop-again : tie.Need-loop-again Inv-loop μ-loop
-loop-again c = search needs
+loop-again c = omega (arith, few c)
 
 returns-2 : tie.Need-returns-2 Inv-loop μ-loop
 returns-2 c = search needs
@@ -54,7 +60,8 @@ replay-all-spec =
     slice-aggregate-tell
     tell-requires
     returns
-    one-if-requires
+    bit-requires
+    (λ c. search needs)
     add-agree
     add-case
     loop-less

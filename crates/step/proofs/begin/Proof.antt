@@ -11,10 +11,12 @@ use Rattle.step.proofs.begin.Statement.{statement}
 use Rattle.step.proofs.begin.Tie as tie
 
 -- a step without an answer, with its clock or its contents from a call
-clocked : {c k : Clock} {d : Contents} → c ≡ k → joining (timing c 0 0 0) (change 0 d []) ≡ joining (timing k 0 0 0) (change 0 d [])
+clocked : {c k : Clock} {d : Contents} → c ≡ k
+    → joining (timing c 0 0 0) (change 0 d []) ≡ joining (timing k 0 0 0) (change 0 d [])
 clocked {c} {k} {d} e = ap (λ (x : Clock). joining (timing x 0 0 0) (change 0 d [])) e
 
-filled : {c : Clock} {d b : Contents} → d ≡ b → joining (timing c 0 0 0) (change 0 d []) ≡ joining (timing c 0 0 0) (change 0 b [])
+filled : {c : Clock} {d b : Contents} → d ≡ b
+    → joining (timing c 0 0 0) (change 0 d []) ≡ joining (timing c 0 0 0) (change 0 b [])
 filled {c} e = ap (λ (x : Contents). joining (timing c 0 0 0) (change 0 x [])) e
 
 returns : tie.Need-returns
@@ -24,7 +26,8 @@ returns-2 : tie.Need-returns-2
 unfolding countStore
 returns-2 c =
     let e = c .before .before .write-step .ensures in
-    simp (c .before .before .before .before .before .step2 .given .1) (record { record-is = e .record-is; store-is = e .store-is })
+    simp (c .before .before .before .before .before .step2 .given .1)
+    (record { record-is = e .record-is; store-is = e .store-is })
 
 returns-3 : tie.Need-returns-3
 returns-3 c =

@@ -10,8 +10,9 @@ use Rattle.step.proofs.data_price.Tie as tie
 returns : tie.Need-returns
 returns c =
     let start = c .before .before in
+    let a = start .args in
     c .data-cycles .ensures
-    ∙ ap₂ (λ (t : Waits) (n : ℕ). price t (dataBeatsIn n (start .args .size) (start .args .region))) (start .pre) (c .before .sram-waits .ensures)
+    ∙ ap₂ (λ (t : Waits) (n : ℕ). price t (dataBeatsIn n (a .size) (a .region))) (start .pre) (c .before .sram-waits .ensures)
 
 pub data-price-spec : {M : Type 1} → statement M
 data-price-spec = tie.close (tie.spec

@@ -25,7 +25,8 @@ abbrev past : tie.After-hits2 → tie.Else1
 past c = c .before .before
 
 second : (c : tie.After-hits2)
-    → c .hits2 .result ≡ hit (fetched (start (past c) .args .buffer) (start (past c) .args .addr)) (further 2 (start (past c) .args .addr))
+    → c .hits2 .result
+    ≡ hit (fetched (start (past c) .args .buffer) (start (past c) .args .addr)) (further 2 (start (past c) .args .addr))
 second c = c .hits2 .ensures ∙ ap₂ hit (c .before .after-fetch .ensures) (next (past c) .wrapping-add-u32 .ensures)
 
 returns : tie.Need-returns
@@ -33,7 +34,8 @@ returns c =
     let a = c .before .before .before .before .before .args in
     let asked = c .before .before in
     rw (c .restart .ensures, asked .before .wrapping-add-u322 .ensures)
-    (arm-misses (a .waits) (a .buffer) (a .addr) (sym (asked .hits .ensures) ∙ not-true (asked .hits .result) (c .before .if1 .taken)))
+    (arm-misses (a .waits) (a .buffer) (a .addr)
+    (sym (asked .hits .ensures) ∙ not-true (asked .hits .result) (c .before .if1 .taken)))
 
 after-fetch-requires-2 : tie.Need-after-fetch-requires-2
 after-fetch-requires-2 c κs =

@@ -10,12 +10,14 @@ returns c = simp (sym (c .before .before .window-from-addr .ensures) ∙ c .enum
 returns-2 : tie.Need-returns-2
 returns-2 c =
     let told = c .before .before .before .before in
-    simp (sym (told .before .before .window-from-addr .ensures) ∙ told .-window .given .1, c .before .enum-told2 .given .1, c .fetch-arm .ensures)
+    let in-window = sym (told .before .before .window-from-addr .ensures) ∙ told .-window .given .1 in
+    simp (in-window, c .before .enum-told2 .given .1, c .fetch-arm .ensures)
 
 returns-3 : tie.Need-returns-3
 returns-3 c =
     let told = c .before .before .before .before in
-    simp (sym (told .before .before .window-from-addr .ensures) ∙ told .-window .given .1, c .before .enum-told3 .given .1, c .fetch-thumb .ensures)
+    let in-window = sym (told .before .before .window-from-addr .ensures) ∙ told .-window .given .1 in
+    simp (in-window, c .before .enum-told3 .given .1, c .fetch-thumb .ensures)
 
 pub fetch-code-spec : {M : Type 1} → statement M
 fetch-code-spec =

@@ -17,11 +17,16 @@ start c = c .before .before .before .before
 abbrev got : tie.After-with-prefetch → tie.After-try-fetch-half
 got c = c .before .before
 
-clock-is : (c : tie.After-with-prefetch) → c .with-prefetch .result ≡ withPrefetch (start c .args .clock) (fetched (start c .args .clock .prefetch) (start c .args .addr))
-clock-is c = c .with-prefetch .ensures ∙ ap (λ (f : Fetched). withPrefetch (start c .args .clock) (f .prefetch)) ((got c) .try-fetch-half .ensures)
+clock-is : (c : tie.After-with-prefetch)
+    → c .with-prefetch .result
+    ≡ withPrefetch (start c .args .clock) (fetched (start c .args .clock .prefetch) (start c .args .addr))
+clock-is c =
+    c .with-prefetch .ensures
+    ∙ ap (λ (f : Fetched). withPrefetch (start c .args .clock) (f .prefetch)) ((got c) .try-fetch-half .ensures)
 
 half-is : (c : tie.After-with-prefetch)
-    → (got c) .try-fetch-half .result .half ≡ found (start c .args .halves .now) (start c .args .clock .prefetch) (start c .args .addr)
+    → (got c) .try-fetch-half .result .half
+    ≡ found (start c .args .halves .now) (start c .args .clock .prefetch) (start c .args .addr)
 half-is c = ap (λ (f : Fetched). f .half) ((got c) .try-fetch-half .ensures)
 
 returns : tie.Need-returns

@@ -8,13 +8,15 @@ use Rattle.step.proofs.fetch_thumb.Tie as tie
 returns : tie.Need-returns
 returns c =
     let a = c .before .before .before .args in
-    rw (c .after-fetch .ensures) (thumb-hits (a .waits) (a .buffer) (a .addr) (sym (c .before .before .hits .ensures) ∙ c .before .if1 .taken))
+    rw (c .after-fetch .ensures)
+    (thumb-hits (a .waits) (a .buffer) (a .addr) (sym (c .before .before .hits .ensures) ∙ c .before .if1 .taken))
 
 returns-2 : tie.Need-returns-2
 returns-2 c =
     let a = c .before .before .before .before .args in
     rw (c .restart .ensures, c .before .wrapping-add-u32 .ensures)
-    (thumb-misses (a .waits) (a .buffer) (a .addr) (sym (c .before .before .before .hits .ensures) ∙ c .before .before .if1 .left))
+    (thumb-misses (a .waits) (a .buffer) (a .addr)
+    (sym (c .before .before .before .hits .ensures) ∙ c .before .before .if1 .left))
 
 pub fetch-thumb-spec : {M : Type 1} → statement M
 fetch-thumb-spec =

@@ -12,8 +12,8 @@ returns : tie.Need-returns
 returns c =
     let start = c .before .before .before .before in
     let a = start .args in
-    instruct (a .clock) (a .contents) (a .waits) (a .isa) (a .addr) (a .opcode) (a .pc-changed) (start .pre .0) (c .before .before .price-insn .ensures)
-    (c .before .fetch-code .ensures)
+    instruct (a .clock) (a .contents) (a .waits) (a .isa) (a .addr) (a .opcode) (a .pc-changed) (start .pre .0)
+    (c .before .before .price-insn .ensures) (c .before .fetch-code .ensures)
 
 pub instruction-step-spec : {M : Type 1} → statement M
 instruction-step-spec = tie.close (tie.spec

@@ -8,26 +8,32 @@ use borrow.Author.Needs.{needs}
 use Rattle.step.proofs.read_step.Statement.{statement}
 use Rattle.step.proofs.read_step.Tie as tie
 
+-- where the call begins
+abbrev start : tie.After-target-in → tie.Start
+start c = c .before .before .before .before .before
+
 -- the memory that the address meets
-met : (c : tie.After-target-in) → c .target-in .result ≡ target (c .before .before .before .before .before .args .lengths) (c .before .before .before .before .before .args .addr)
+met : (c : tie.After-target-in) → c .target-in .result ≡ target (start c .args .lengths) (start c .args .addr)
 unfolding target
 met c =
-    let a = c .before .before .before .before .before .args in
+    let a = start c .args in
     c .target-in .ensures ∙ ap (targetIn (a .lengths) (a .addr)) (c .before .decode .ensures)
 
 read-requires : tie.Need-read-requires
-read-requires c κs = record { memory = met c; whole = c .before .before .before .before .before .pre .1 }
+read-requires c κs = record { memory = met c; whole = start c .pre .1 }
 
 returns : tie.Need-returns
 unfolding dataBeats
 returns c =
     let at = c .before .before in
-    let a = at .before .before .before .before .before .args in
+    let a = start at .args in
     let priced =
     c .data-price .ensures
-    ∙ ap (λ (r : Region). price (romWaits (a .clock .waitcnt)) (dataBeatsIn (sramWaits (a .clock .waitcnt)) (a .size) r)) (at .before .decode .ensures)
+    ∙ ap (λ (r : Region). price (romWaits (a .clock .waitcnt)) (dataBeatsIn (sramWaits (a .clock .waitcnt)) (a .size) r))
+    (at .before .decode .ensures)
     in
-    λ x. record { clock = a .clock; idle = 0; cycles = priced x; hits = 0; value = c .before .read .ensures x; contents = a .contents }
+    let value = c .before .read .ensures in
+    λ x. record { clock = a .clock; idle = 0; cycles = priced x; hits = 0; value = value x; contents = a .contents }
 
 pub read-step-spec : {M : Type 1} → statement M
 read-step-spec =

@@ -12,7 +12,8 @@ returns c =
     let start = c .before .before .before in
     let a = start .args in
     c .with-prefetch .ensures
-    ∙ ap (withPrefetch (a .clock)) (c .before .restart .ensures ∙ ap (λ (t : Waits). restart t (a .clock .prefetch) (a .addr)) (start .pre))
+    ∙ ap (withPrefetch (a .clock))
+    (c .before .restart .ensures ∙ ap (λ (t : Waits). restart t (a .clock .prefetch) (a .addr)) (start .pre))
 
 pub restarted-spec : {M : Type 1} → statement M
 restarted-spec = tie.close (tie.spec

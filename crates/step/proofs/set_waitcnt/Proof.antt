@@ -26,7 +26,8 @@ returns c x =
       «force_next_fetch_n» = a .clock .«force_next_fetch_n»;
       prefetch =
           (c .set-enabled .ensures
-          ∙ ap (λ (b : Bool). setEnabled b (a .clock .prefetch)) (c .before .prefetch-enable .ensures ∙ ap prefetchEnable (c .before .before .before .write .ensures))) x;
+          ∙ ap (λ (b : Bool). setEnabled b (a .clock .prefetch))
+          (c .before .prefetch-enable .ensures ∙ ap prefetchEnable (c .before .before .before .write .ensures))) x;
     }
 
 pub set-waitcnt-spec : {M : Type 1} → statement M

@@ -23,9 +23,10 @@ begun c = c .before .before .before .before .before
 tick-idle-requires : tie.Need-tick-idle-requires
 tick-idle-requires c κs =
     let b = begun c in
-    let h = start b .pre in (
-      tick-sound (media b) (state b) (start b .args .step) (start b .args .waits) (h .sound) (h .waits) (b .begin .result) _ (b .begin .ensures),
-      tick-small (media b) (state b) (start b .args .step) (start b .args .waits) (h .sound) (h .waits) (b .begin .result) _ (b .begin .ensures),
+    let h = start b .pre in
+    let a = start b .args in (
+      tick-sound (media b) (state b) (a .step) (a .waits) (h .sound) (h .waits) (b .begin .result) _ (b .begin .ensures),
+      tick-small (media b) (state b) (a .step) (a .waits) (h .sound) (h .waits) (b .begin .result) _ (b .begin .ensures),
     )
 
 returns : tie.Need-returns
@@ -33,8 +34,10 @@ returns c =
     let ticked = c .before .before .before in
     let b = begun (ticked .before) in
     let h = start b .pre in
-    whole (media b) (state b) (start b .args .step) (start b .args .waits) (h .sound) (h .waits) (b .begin .result) _ (b .begin .ensures)
-    (ticked .tick-idle .result) _ (ticked .tick-idle .ensures) (c .before .before .with-prefetch .result) (c .before .before .with-prefetch .ensures)
+    let a = start b .args in
+    whole (media b) (state b) (a .step) (a .waits) (h .sound) (h .waits) (b .begin .result) _ (b .begin .ensures)
+    (ticked .tick-idle .result) _ (ticked .tick-idle .ensures)
+    (c .before .before .with-prefetch .result) (c .before .before .with-prefetch .ensures)
 
 pub take-step-spec : {M : Type 1} → statement M
 take-step-spec =

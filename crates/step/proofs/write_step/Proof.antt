@@ -37,7 +37,8 @@ returns c =
     let mode = modeOf (a .lengths) (a .store .now) in
     let priced =
     c .before .data-price .ensures
-    ∙ ap (λ (r : Region). price (romWaits (a .clock .waitcnt)) (dataBeatsIn (sramWaits (a .clock .waitcnt)) (a .size) r)) (at .before .decode .ensures)
+    ∙ ap (λ (r : Region). price (romWaits (a .clock .waitcnt)) (dataBeatsIn (sramWaits (a .clock .waitcnt)) (a .size) r))
+    (at .before .decode .ensures)
     in
     let contents =
     counted .count-store .ensures
@@ -45,8 +46,12 @@ returns c =
     ∙ ap (λ (t : Target). countedAt t (videoCount mode (a .size) t) (a .contents)) (met at)
     in
     record {
-      record-is = c .unanswered .ensures ∙ (λ x. record { clock = a .clock; idle = 0; cycles = priced x; hits = 0; value = 0; contents = contents x });
-      store-is = stored .write .ensures .bytes ∙ ap (λ (t : Target). landed (a .store .now) (putsAt mode (a .size) (a .addr) (a .value) t)) (met at);
+      record-is =
+          c .unanswered .ensures
+          ∙ (λ x. record { clock = a .clock; idle = 0; cycles = priced x; hits = 0; value = 0; contents = contents x });
+      store-is =
+          stored .write .ensures .bytes
+          ∙ ap (λ (t : Target). landed (a .store .now) (putsAt mode (a .size) (a .addr) (a .value) t)) (met at);
     }
 
 pub write-step-spec : {M : Type 1} → statement M

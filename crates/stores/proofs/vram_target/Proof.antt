@@ -7,12 +7,16 @@ use Rattle.stores.proofs.vram_target.Tie as tie
 returns : tie.Need-returns
 returns c =
     let asked = c .before .before in
-    outside-drops _ (asked .before .before .before .args .index) (asked .before .dispcnt-bg-mode .ensures) (asked .classify-vram-offset .ensures) (c .enum-told .given .1)
+    let moded = asked .before in
+    outside-drops _ (moded .before .before .args .index) (moded .dispcnt-bg-mode .ensures)
+    (asked .classify-vram-offset .ensures) (c .enum-told .given .1)
 
 returns-2 : tie.Need-returns-2
 returns-2 c =
     let asked = c .before .before .before in
-    within-fills _ (asked .before .before .before .args .index) (asked .before .dispcnt-bg-mode .ensures) (asked .classify-vram-offset .ensures) (c .before .target .given .1)
+    let moded = asked .before in
+    within-fills _ (moded .before .before .args .index) (moded .dispcnt-bg-mode .ensures)
+    (asked .classify-vram-offset .ensures) (c .before .target .given .1)
 
 pub vram-target-spec : {M : Type 1} → statement M
 vram-target-spec =

@@ -5,22 +5,35 @@ use borrow.Author.Needs.{needs}
 use Rattle.stores.proofs.write.Statement.{statement}
 use Rattle.stores.proofs.write.Tie as tie
 
+-- the byte that SRAM takes: where the call begins
+abbrev start : tie.After-put-arg → tie.Start
+start c = c .before .before .before .before .before
+
 write-plain-requires : tie.Need-write-plain-requires
-write-plain-requires c κs = (rw (c .before .before .target .given .1) at (c .before .before .before .before .before .pre .memory)) .end
+write-plain-requires c κs =
+    let told = c .before .before in
+    (rw (told .target .given .1) at (told .before .before .before .pre .memory)) .end
 
 write-video-requires : tie.Need-write-video-requires
 write-video-requires c κs =
-    let start = c .before .before .before .before .before in
-    record { memory = rw (c .before .before .target2 .given .1) at (start .pre .memory); whole = start .pre .whole }
+    let told = c .before .before in
+    let required = told .before .before .before .pre in
+    record { memory = rw (told .target2 .given .1) at (required .memory); whole = required .whole }
 
 rem-lane : tie.Need-rem-lane
-rem-lane c = let a = c .before .before .before .before .before .before .args in rw (c .size-bytes .ensures) ((lane-small (a .addr) (a .size)) .some)
+rem-lane c =
+    let a = start (c .before) .args in
+    rw (c .size-bytes .ensures) ((lane-small (a .addr) (a .size)) .some)
 
 lane-requires : tie.Need-lane-requires
-lane-requires c κs = let a = c .before .before .before .before .before .before .args in rw (c .size-bytes .ensures) ((lane-small (a .addr) (a .size)) .below)
+lane-requires c κs =
+    let a = start (c .before) .args in
+    rw (c .size-bytes .ensures) ((lane-small (a .addr) (a .size)) .below)
 
 put-requires : tie.Need-put-requires
-put-requires c κs = (rw (c .before .before .before .before .target3 .given .1) at (c .before .before .before .before .before .before .before .pre .memory)) .end
+put-requires c κs =
+    let told = c .before .before .before .before in
+    (rw (told .target3 .given .1) at (told .before .before .before .pre .memory)) .end
 
 returns : tie.Need-returns
 returns c = simp (c .enum-told .given .1) (record { bytes = refl; halfwords = refl })
@@ -32,19 +45,27 @@ returns-3 : tie.Need-returns-3
 returns-3 c = simp (c .enum-told3 .given .1) (record { bytes = refl; halfwords = refl })
 
 returns-4 : tie.Need-returns-4
-returns-4 c = simp (c .before .before .before .before .before .target .given .1) (record { bytes = c .before .before .write-plain .ensures; halfwords = refl })
+returns-4 c =
+    let stored = c .before .before in
+    simp (stored .before .before .before .target .given .1) (stored .write-plain .ensures)
 
 returns-5 : tie.Need-returns-5
-returns-5 c = simp (c .before .before .before .before .before .target2 .given .1) (c .before .before .write-video .ensures)
+returns-5 c =
+    let stored = c .before .before in
+    simp (stored .before .before .before .target2 .given .1) (stored .write-video .ensures)
 
 returns-6 : tie.Need-returns-6
 returns-6 c =
-    let laned = c .before .before .before in
-    let told = laned .before .before .before .before in
-    let a = told .before .before .before .args in
-    simp (told .target3 .given .1)
+    let stored = c .before .before in
+    let laned = stored .before in
+    let sized = laned .before in
+    let asked = sized .before in
+    let a = start asked .args in
+    simp (asked .before .before .target3 .given .1)
     (record {
-      bytes = lane-lands (a .store .now) _ _ (a .addr) (a .value) (a .size) (laned .before .size-bytes .ensures) (laned .lane .ensures) (c .before .before .put .ensures);
+      bytes =
+          lane-lands (a .store .now) _ _ (a .addr) (a .value) (a .size)
+          (sized .size-bytes .ensures) (laned .lane .ensures) (stored .put .ensures);
       halfwords = refl;
     })
 

@@ -26,7 +26,8 @@ returns-2 c =
     let f = filled (a .target) (a .value) (at .resolve-strb .ensures) (told .action .given .1) in
     let h = filled-with (a .target) (a .value) (omega arith) (at .resolve-strb .ensures) (told .action .given .1) in
     record {
-      bytes = c .before .before .put-half .ensures ∙ ap (λ (n : ℕ). landed (a .store .now) (putAligned (a .part) (a .index) 2 n)) h ∙ simp f;
+      bytes = c .before .before .put-half .ensures
+          ∙ ap (λ (n : ℕ). landed (a .store .now) (putAligned (a .part) (a .index) 2 n)) h ∙ simp f;
       halfwords = simp f;
     }
 

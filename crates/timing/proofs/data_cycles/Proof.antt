@@ -7,13 +7,19 @@ use Rattle.timing.proofs.data_cycles.Statement.{statement}
 use Rattle.timing.proofs.data_cycles.Tie as tie
 
 returns-3 : tie.Need-returns-3
-returns-3 c = simp (c .before .enum-told3 .given .1) (c .ewram-cycles .ensures ∙ ewram-beats (c .before .before .before .args .waits) (c .before .before .before .args .size))
+returns-3 c =
+    let a = c .before .before .before .args in
+    simp (c .before .enum-told3 .given .1) (c .ewram-cycles .ensures ∙ ewram-beats (a .waits) (a .size))
 
 returns-6 : tie.Need-returns-6
-returns-6 c = simp (c .before .enum-told6 .given .1) (c .video-ram-cycles .ensures ∙ video-beats (c .before .before .before .args .waits) (c .before .before .before .args .size))
+returns-6 c =
+    let a = c .before .before .before .args in
+    simp (c .before .enum-told6 .given .1) (c .video-ram-cycles .ensures ∙ video-beats (a .waits) (a .size))
 
 returns-7 : tie.Need-returns-7
-returns-7 c = simp (c .before .enum-told7 .given .1) (c .video-ram-cycles2 .ensures ∙ video-beats (c .before .before .before .args .waits) (c .before .before .before .args .size))
+returns-7 c =
+    let a = c .before .before .before .args in
+    simp (c .before .enum-told7 .given .1) (c .video-ram-cycles2 .ensures ∙ video-beats (a .waits) (a .size))
 
 returns-9 : tie.Need-returns-9
 returns-9 c = simp (c .before .enum-told9 .given .1) (c .rom-data-cycles .ensures)

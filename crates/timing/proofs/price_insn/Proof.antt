@@ -1,4 +1,5 @@
--- `price_insn` meets its contract: a fetch costs at most 18, so that the sums fit, and each result is the definition's. Assumes nothing.
+-- `price_insn` meets its contract: a fetch costs at most 18, so that the sums fit, and each result is the definition's.
+-- Assumes nothing.
 use mathlib.Core.Path.{_≡_, ap, ap₂, _∙_}
 use mathlib.Core.Bool.{Bool}
 use Prim.Native.Nat.{ℕ, _+_, _≤_}
@@ -55,6 +56,7 @@ returns c = λ x.
     let at = c .before .before in
     let a = start at .args in
     let i = a .input in
+    let addr = i .«code_addr» in
     let asked = (fetch at) .before in
     let priced = (fetch at) .price-fetch .ensures in
     let kind = asked .nonseq-if .ensures in
@@ -62,14 +64,14 @@ returns c = λ x.
       total =
           ap₂ (λ (m n : ℕ). m + n)
           (ap (λ (r : FetchPrice). r .cycles) priced
-          ∙ ap (λ (k : AccessKind). price (a .waits) (fetchBeatsIn (a .prefetch) (i .«code_addr») k (i .isa) (window (i .«code_addr»)))) kind)
+          ∙ ap (λ (k : AccessKind). price (a .waits) (fetchBeatsIn (a .prefetch) addr k (i .isa) (window addr))) kind)
           (one at) x;
       internal = one at x;
       «cart_idle» = ap₂ (λ (m n : ℕ). m + n) (ap (λ (r : FetchPrice). r .«cart_idle») priced) (one at) x;
       «latch_disable_bug» =
           (at .before .force-next-fetch-nonseq .ensures
-          ∙ ap₂ (λ (r h : Bool). forceNextFetchNonseq (i .«prefetch_enabled») r h (i .«pc_changed»)) (at .before .before .in-window .ensures)
-          (asked .before .had-internal .ensures)) x;
+          ∙ ap₂ (λ (r h : Bool). forceNextFetchNonseq (i .«prefetch_enabled») r h (i .«pc_changed»))
+          (at .before .before .in-window .ensures) (asked .before .had-internal .ensures)) x;
       «fetch_kind» = kind x;
     }
 

@@ -1,4 +1,5 @@
--- `price_rom` meets its contract: two halves cost at most 18, so that their sum fits, and it is the definition's. Assumes nothing.
+-- `price_rom` meets its contract: two halves cost at most 18, so that their sum fits, and it is the definition's.
+-- Assumes nothing.
 use mathlib.Core.Path.{_≡_, ap, _∙_}
 use Prim.Native.Nat.{ℕ, _+_}
 use Rattle.model.specs.Base.{further}
@@ -15,15 +16,20 @@ use Rattle.timing.proofs.price_rom.Statement.{statement}
 use Rattle.timing.proofs.price_rom.Tie as tie
 
 -- both halves of an ARM opcode are priced
-abbrev start : tie.After-price-rom-half2 → tie.Start
-start c = c .before .before .before .before .before
+abbrev first : tie.After-price-rom-half2 → tie.After-price-rom-half
+first c = c .before .before .before .before
 
-both : (c : tie.After-price-rom-half2) → (c .before .before .before .before .price-rom-half .result) + (c .price-rom-half2 .result)
-    ≡ price (start c .args .waits) (romBeats (start c .args .prefetch) (start c .args .addr) (start c .args .window) (start c .args .kind) Arm)
+abbrev start : tie.After-price-rom-half2 → tie.Start
+start c = (first c) .before
+
+both : (c : tie.After-price-rom-half2)
+    → ((first c) .price-rom-half .result) + (c .price-rom-half2 .result)
+    ≡ price (start c .args .waits)
+    (romBeats (start c .args .prefetch) (start c .args .addr) (start c .args .window) (start c .args .kind) Arm)
 both c =
     let a = start c .args in
     two-beats (a .waits) (halfBeat (a .prefetch) (a .addr) (a .window) (a .kind))
-    (halfBeat (a .prefetch) (further 2 (a .addr)) (a .window) Seq) (c .before .before .before .before .price-rom-half .ensures)
+    (halfBeat (a .prefetch) (further 2 (a .addr)) (a .window) Seq) ((first c) .price-rom-half .ensures)
     (c .price-rom-half2 .ensures
     ∙ ap (λ (n : ℕ). beatCycles (a .waits) (halfBeat (a .prefetch) n (a .window) Seq)) (c .before .wrapping-add-u32 .ensures))
 

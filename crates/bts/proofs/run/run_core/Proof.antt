@@ -1,4 +1,5 @@
--- `run_core` meets its contract: each turn makes the beginning one record longer. The measure is the records left. Assumes nothing.
+-- `run_core` meets its contract: each turn makes the beginning one record longer. The measure is the records left. Assumes
+-- nothing.
 use mathlib.Core.Path.{_≡_, refl, sym, ap, _∙_}
 use Prim.Native.Nat.{ℕ, _+_, _-_, _*_, _≤_, _<_}
 use lib.ListN.{length}
@@ -13,12 +14,12 @@ use Rattle.bts.proofs.run.run_core.Statement.{statement}
 use Rattle.bts.proofs.run.run_core.Tie as tie
 
 abbrev Inv-loop : tie.InvT-loop
-Inv-loop sheet n halves₀ store₀ bios rom lengths answers₀ waits₀ clock₀ held₀ total₀ k₀ halves store answers waits clock held total k =
-    Going (mediaFrom bios rom lengths) (stateFrom clock₀ halves₀ held₀ store₀) sheet n answers₀ waits (stateFrom clock halves held store)
+Inv-loop sheet n h₀ store₀ bios rom lengths answers₀ waits₀ clock₀ held₀ total₀ k₀ h store answers waits clock held total k =
+    Going (mediaFrom bios rom lengths) (stateFrom clock₀ h₀ held₀ store₀) sheet n answers₀ waits (stateFrom clock h held store)
     answers total k
 
 abbrev μ-loop : tie.MeasureT-loop
-μ-loop sheet n halves₀ store₀ bios rom lengths answers₀ waits₀ clock₀ held₀ total₀ k₀ halves store answers waits clock held total k =
+μ-loop sheet n h₀ store₀ bios rom lengths answers₀ waits₀ clock₀ held₀ total₀ k₀ h store answers waits clock held total k =
     n - k
 
 -- ---- before the loop
@@ -48,8 +49,8 @@ began c = start (c .before)
 
 room : (c : At-loop) → length (c .loop .answers) ≡ length (began c .args .answers .now)
 room c =
-    same-room (media (c .before)) (first (c .before)) (began c .args .sheet .now) (began c .args .answers .now) (c .loop .inv .beginning)
-    (omega (arith, began c .pre .room, c .loop .inv .within))
+    same-room (media (c .before)) (first (c .before)) (began c .args .sheet .now) (began c .args .answers .now)
+    (c .loop .inv .beginning) (omega (arith, began c .pre .room, c .loop .inv .within))
 
 -- ---- in a turn of the loop
 
@@ -109,8 +110,8 @@ loop-again c =
     let l = t .before .loop in
     let took = written c .before .before .before .before in
     let of = took .before .before .before in
-    turn (l .inv) (of .step-of .ensures ∙ ap stepOf (of .before .record-at .ensures)) (took .take-step .ensures) (t .loop-test .taken)
-    (omega arith) (let twelve : 12 * l .k + 12 - 12 * l .k ≡ 12 = omega arith in twelve)
+    turn (l .inv) (of .step-of .ensures ∙ ap stepOf (of .before .record-at .ensures)) (took .take-step .ensures)
+    (t .loop-test .taken) (omega arith) (let twelve : 12 * l .k + 12 - 12 * l .k ≡ 12 = omega arith in twelve)
     (c .before .before .before .before .before .before .put-answer .ensures) (c .before .before .waits-after .ensures)
 
 -- ---- the loop is left

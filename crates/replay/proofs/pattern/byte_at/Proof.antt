@@ -7,11 +7,18 @@ use borrow.Author.Needs.{needs}
 use Rattle.replay.proofs.pattern.byte_at.Statement.{statement}
 use Rattle.replay.proofs.pattern.byte_at.Tie as tie
 
-split : (i j s t : ℕ) → i * 31 + j * 17 + s * 13 + t * 101 ≡ (i / 251 * 31 + j / 251 * 17 + s / 251 * 13 + t / 251 * 101) * 251 + (i % 251 * 31 + j % 251 * 17 + (s % 251 * 13 + t % 251 * 101))
+-- the sum of the reduced numbers, and how often 251 was taken away
+abbrev low : ℕ → ℕ → ℕ → ℕ → ℕ
+low i j s t = i % 251 * 31 + j % 251 * 17 + (s % 251 * 13 + t % 251 * 101)
+
+abbrev times : ℕ → ℕ → ℕ → ℕ → ℕ
+times i j s t = i / 251 * 31 + j / 251 * 17 + s / 251 * 13 + t / 251 * 101
+
+split : (i j s t : ℕ) → i * 31 + j * 17 + s * 13 + t * 101 ≡ times i j s t * 251 + low i j s t
 split i j s t = omega arith
 
-reduced : (i j s t : ℕ) → (i % 251 * 31 + j % 251 * 17 + (s % 251 * 13 + t % 251 * 101)) % 251 ≡ (i * 31 + j * 17 + s * 13 + t * 101) % 251
-reduced i j s t = sym (ap (λ (x : ℕ). x % 251) (split i j s t) ∙ mul-add-mod-self-right (i / 251 * 31 + j / 251 * 17 + s / 251 * 13 + t / 251 * 101) 251 (i % 251 * 31 + j % 251 * 17 + (s % 251 * 13 + t % 251 * 101)))
+reduced : (i j s t : ℕ) → low i j s t % 251 ≡ (i * 31 + j * 17 + s * 13 + t * 101) % 251
+reduced i j s t = sym (ap (λ (x : ℕ). x % 251) (split i j s t) ∙ mul-add-mod-self-right (times i j s t) 251 (low i j s t))
 
 mul-place : tie.Need-mul-place
 mul-place c = search needs

@@ -1,4 +1,5 @@
--- `fill` meets its contract: each byte passed is the pattern's, and the slice keeps its length. The measure is what is left of it. Assumes nothing.
+-- `fill` meets its contract: each byte passed is the pattern's, and the slice keeps its length. The measure is what is left of
+-- it. Assumes nothing.
 use Prim.Native.Nat.{ℕ, _-_, _<_}
 use mathlib.Core.Path.{_≡_, _∙_}
 use borrow.Author.Count.{below-more}
@@ -35,7 +36,11 @@ loop-less c = search needs
 loop-again : tie.Need-loop-again Inv-loop μ-loop
 loop-again c =
     let l = c .before .before .loop in
-    (search needs, below-more _ _ (λ k h. read-below ℕ (l .out) (l .i) k (c .byte-at .result) 0 _ h (l .inv .1 k h)) (getD-set-same (l .out) (l .i) (c .byte-at .result) 0 (omega arith) ∙ c .byte-at .ensures))
+    let b = c .byte-at .result in (
+      search needs,
+      below-more _ _ (λ k h. read-below ℕ (l .out) (l .i) k b 0 _ h (l .inv .1 k h))
+          (getD-set-same (l .out) (l .i) b 0 (omega arith) ∙ c .byte-at .ensures),
+    )
 
 same-length : tie.Need-same-length Inv-loop μ-loop
 same-length c = search needs

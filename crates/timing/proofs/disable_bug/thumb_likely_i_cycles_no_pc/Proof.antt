@@ -1,4 +1,5 @@
--- Each mask of `thumb_likely_i_cycles_no_pc`, on the high byte, tests a bit field of its definition: one law on masks, five times. Assumes nothing.
+-- Each mask of `thumb_likely_i_cycles_no_pc`, on the high byte, tests a bit field of its definition: one law on masks, five
+-- times. Assumes nothing.
 use Rattle.model.specs.DisableBug.{thumbInternal}
 use Rattle.timing.proofs.Masks.{last, mask-fields}
 use Rattle.timing.proofs.disable_bug.thumb_likely_i_cycles_no_pc.Statement.{statement}

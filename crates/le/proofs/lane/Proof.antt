@@ -3,8 +3,8 @@ use mathlib.Core.Path.{_≡_}
 use native.Mathlib.Nat.{div-one}
 use native.Mathlib.Omega.{arith}
 use borrow.Author.Needs.{needs}
-use Rattle.parts.proofs.lane.Statement.{statement}
-use Rattle.parts.proofs.lane.Tie as tie
+use Rattle.le.proofs.lane.Statement.{statement}
+use Rattle.le.proofs.lane.Tie as tie
 
 returns : tie.Need-returns
 returns c = simp (c .match .keys1, div-one)
