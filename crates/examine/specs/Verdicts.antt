@@ -123,7 +123,7 @@ ready i e =
 pub sheet-shaped : (s : List ℕ) {v : Verdict} → v ≡ firstRow (sheetRows s) → v ≡ Accepted → Shaped s
 sheet-shaped s e a = shaped s (not-false (isShaped s) ((accepts-none (sheetRows s) (sym e ∙ a)) .1 .1 .0))
 
-few-faulty : (i : Lent) (k : ℕ) → verdict i ≡ Refused (FaultyRecord k) → k ≤ 4096
+few-faulty : (i : Lent) (k : ℕ) → verdict i ≡ Refused (FaultyRecord k) → k ≤ maxRecords
 unfolding outcome
 few-faulty i k e =
     let o = ap (outcomeBy i) e in
@@ -134,7 +134,7 @@ few-faulty i k e =
     omega (arith, f .within, ap (λ (x : Outcome). x .index) o, s .few)
 
 -- the index of a refusal is 0 or that of a record
-pub index-small : (i : Lent) (r : Refusal) → verdict i ≡ Refused r → refusalIndex r ≤ 4096
+pub index-small : (i : Lent) (r : Refusal) → verdict i ≡ Refused r → refusalIndex r ≤ maxRecords
 index-small i BadMark e = omega arith
 index-small i BadVersion e = omega arith
 index-small i BadShape e = omega arith

@@ -16,7 +16,7 @@ use lib.Dec.{eqb}
 use borrow.Author.Tests.{eqb-true, leb-true}
 use Rattle.model.specs.Base.{bit, sum, bytes, byteAt, number, AllBytes, Field, field, encoded}
 use Rattle.model.specs.Waitcnt.{prefetchEnable}
-use Rattle.model.specs.BoardBytes.{clockOf, halvesFrom, contentsOf, boardOf, clockFields}
+use Rattle.model.specs.BoardBytes.{boardLength, clockOf, halvesFrom, contentsOf, boardOf, clockFields}
 use Rattle.model.specs.BoardBytes.{contentsFields, boardBytes, soundBytes, sound}
 use Rattle.model.specs.Laws.Choice.{parts}
 use Rattle.model.specs.declared.Clock.{Clock}
@@ -188,7 +188,7 @@ first-byte b = flag-byte (b .clock .prefetch .«first_beat»)
 
 -- Past the halfwords a place is known only once their number is.
 module _ (b : Board) (eight : length (b .halves) ≡ 8) where
-  pub board-length : length (boardBytes b) ≡ 72
+  pub board-length : length (boardBytes b) ≡ boardLength
   unfolding boardBytes
   board-length = simp (length-append, halfBytes-length, eight)
 
@@ -264,7 +264,7 @@ decode-encode b k x =
 
 -- what that needs of soundness: the bytes that a board does not keep whole
 pub record WellFormed (b : List ℕ) : Type 0 where
-  pub size : length b ≡ 72
+  pub size : length b ≡ boardLength
   pub zero₇ : byteAt b 7 ≡ 0
   pub zero₆₈ : number 4 b 68 ≡ 0
   pub flag₂ : byteAt b 2 ≤ 1
@@ -275,7 +275,7 @@ pub sound-formed : (b : List ℕ) → sound b ≡ true → WellFormed b
 unfolding sound soundBytes
 sound-formed b e =
     record {
-      size = eqb-true (length b) 72 (search parts);
+      size = eqb-true (length b) boardLength (search parts);
       zero₇ = eqb-true (byteAt b 7) 0 (search parts depth 7);
       zero₆₈ = eqb-true (number 4 b 68) 0 (search parts depth 7);
       flag₂ = leb-true (byteAt b 2) 1 (search parts);
@@ -317,7 +317,7 @@ fields-read b k x =
 
 pub encode-formed : (b : List ℕ) → AllBytes b → WellFormed b → boardBytes (boardOf b) ≡ b
 unfolding boardBytes clockOf contentsOf
-encode-formed b h k = ap encoded (fields-read b k) ∙ fields-back widths b 0 h (omega arith) ∙ take-all 72 b (omega arith)
+encode-formed b h k = ap encoded (fields-read b k) ∙ fields-back widths b 0 h (omega arith) ∙ take-all boardLength b (omega arith)
 
 pub encode-decode : (b : List ℕ) → AllBytes b → sound b ≡ true → boardBytes (boardOf b) ≡ b
 encode-decode b h e = encode-formed b h (sound-formed b e)

@@ -196,11 +196,11 @@ module _ (i : Lent) (lent : LentBytes i) (ok : (outcome i) .number ≡ 0) where
       (record { clock = first-sound; held = first-held })
       (records-fit (i .sheet) 0 (recordCount (i .sheet)) (lent .sheet))
 
-  pub total-fits : (outcome i) .total ≤ 4096 * 0xFFFF_FFFF
+  pub total-fits : (outcome i) .total ≤ maxRecords * 0xFFFF_FFFF
   total-fits =
       let shaped : isShaped (i .sheet) ≡ true = acceptable .shaped in
       let few : leb (recordCount (i .sheet)) maxRecords ≡ true = search parts in
-      let most : recordCount (i .sheet) ≤ 4096 = leb-true (recordCount (i .sheet)) 4096 few in
+      let most : recordCount (i .sheet) ≤ maxRecords = leb-true (recordCount (i .sheet)) maxRecords few in
       rw (was-accepted i ok) (omega (arith, sum-fits ((ran i) .answers) answers-fit, answers-count i))
 
   pub board-sound : sound ((outcome i) .board) ≡ true

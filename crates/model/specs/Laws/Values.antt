@@ -121,7 +121,7 @@ puts-in mode z a v SystemRom = tt
 puts-in mode z a v GamePakRom = tt
 puts-in mode z a v (Plain p i) = put-bytes p (lowered (sizeBytes z) i) (sizeBytes z) v
 puts-in mode z a v (Video m p i) = video-bytes (fills mode m i) z p i v
-puts-in mode z a v (Sram p i) = put-byte p i (byteOf (a % sizeBytes z) v) (omega arith)
+puts-in mode z a v (Sram p i) = put-byte p _ (byteOf (a % sizeBytes z) v) (omega arith)
 
 puts-bytes : (l : Lengths) (mode : ℕ) (z : AccessSize) (a v : ℕ) → All PutByte (puts l mode z a v)
 unfolding puts
