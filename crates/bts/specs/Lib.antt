@@ -1,4 +1,4 @@
 -- What the contracts of this crate cite, beside the model, and what follows from the exported one.
 pub mod Beginning
-pub mod Report
+pub mod Reported
 pub mod Promises

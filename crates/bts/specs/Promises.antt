@@ -59,6 +59,6 @@ module _ (i : Lent) (o : Outcome) (call : o ≡ outcome i) where
 
 -- ---- demand 3: any two accepted calls with alike sheets and boards, whatever memories they are lent
 
-pub same-for-every-watch : (i j : Lent) (o p : Outcome) → o ≡ outcome i → p ≡ outcome j → o .number ≡ 0 → p .number ≡ 0
+pub same-times : (i j : Lent) (o p : Outcome) → o ≡ outcome i → p ≡ outcome j → o .number ≡ 0 → p .number ≡ 0
     → AlikeSheets (i .sheet) (j .sheet) → AlikeBoards (i .board) (j .board) → Demand3 i j o p
-same-for-every-watch = demand.demand3
+same-times = demand.demand3

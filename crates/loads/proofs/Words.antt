@@ -17,7 +17,7 @@ use Rattle.model.specs.Wait.{sizeBytes}
 use Rattle.model.specs.Memory.{target}
 use Rattle.model.specs.Load.{Bus, load}
 use Rattle.model.specs.Laws.Choice.{choose}
-use Rattle.model.specs.Laws.Aligned.{Rows, plain-rows, video-rows, rom-rows, rows-load}
+use Rattle.model.specs.Laws.Aligned.{AlignedWord, plain-aligned, video-aligned, rom-aligned, aligned-load}
 use Rattle.model.specs.declared.AccessSize.{AccessSize}
 use Rattle.model.specs.declared.AccessSize.the-variants.{Byte, Half, Word}
 use Rattle.model.specs.declared.Lengths.{Lengths}
@@ -55,8 +55,8 @@ found xs base n i {w} =
 module _ (l : Lengths) (b : Bus) (z : AccessSize) (a : ℕ) (fits : a < 2 ^ 32) (aligned : a % sizeBytes z ≡ 0)
     (store : AllBytes (b .store)) (rom : AllBytes (b .rom)) where
   -- the low bytes of a word where the load's bytes stand
-  low : {xs : List ℕ} {q w : ℕ} → AllBytes xs → Rows l b a xs q → w ≡ number 4 xs q → w % 256 ^ sizeBytes z ≡ load l b z a
-  low {xs} {q} k s e = ap (λ (n : ℕ). n % 256 ^ sizeBytes z) e ∙ sym (rows-load l b a fits xs q s k z aligned)
+  low : {xs : List ℕ} {q w : ℕ} → AllBytes xs → AlignedWord l b a xs q → w ≡ number 4 xs q → w % 256 ^ sizeBytes z ≡ load l b z a
+  low {xs} {q} k s e = ap (λ (n : ℕ). n % 256 ^ sizeBytes z) e ∙ sym (aligned-load l b a fits xs q s k z aligned)
 
   by-target : (t : Target) {w : ℕ} → target l a ≡ t → wordFrom (b .rom) (b .store) a t ≡ loaded.Word w
       → w % 256 ^ sizeBytes z ≡ load l b z a
@@ -64,13 +64,13 @@ module _ (l : Lengths) (b : Bus) (z : AccessSize) (a : ℕ) (fits : a < 2 ^ 32) 
   by-target SystemRom e h = let x : _≡_ {A = ℕ} 0 1 = cc in absurd (omega arith)
   by-target GamePakRom e h =
       let s = found (b .rom) 0 (length (b .rom)) (romOffset a) h in
-      low rom (rom-rows l b a e) (s .word ∙ ap (number 4 (b .rom)) (zero-add (romOffset a)))
+      low rom (rom-aligned l b a e) (s .word ∙ ap (number 4 (b .rom)) (zero-add (romOffset a)))
   by-target (Plain p i) e h =
       let s = found (b .store) (p .base) (p .size) i h in
-      low store (plain-rows l b a p i e (s .all)) (s .word)
+      low store (plain-aligned l b a p i e (s .all)) (s .word)
   by-target (Video m p i) e h =
       let s = found (b .store) (p .base) (p .size) i h in
-      low store (video-rows l b a m p i e (s .all)) (s .word)
+      low store (video-aligned l b a m p i e (s .all)) (s .word)
   by-target (Sram p i) e h = let x : _≡_ {A = ℕ} 0 1 = cc in absurd (omega arith)
 
   -- the word that was found has the load in its low bytes

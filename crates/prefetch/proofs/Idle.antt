@@ -17,7 +17,7 @@ use Rattle.model.specs.Laws.Sound.{Sound, ready-sound, ticks-sound}
 use Rattle.model.specs.Laws.Rules.{off-stays}
 use Rattle.model.specs.Laws.Beats as beats
 use Rattle.model.specs.declared.PrefetchBuffer.{PrefetchBuffer}
-use Rattle.prefetch.specs.Beat.{Beat}
+use Rattle.prefetch.specs.InFlight.{InFlight}
 use Rattle.prefetch.specs.Ticked.{Ticked}
 
 module _ {t : Waits} {rom : List ℕ} where
@@ -31,7 +31,7 @@ module _ {t : Waits} {rom : List ℕ} where
       }
 
   -- all that the beat has left: its halfword arrives
-  pub ended-beat : {h : List ℕ} {p q : PrefetchBuffer} {n half : ℕ} → Beat p n → p .«wait_left» ≤ n → q ≡ ended t p
+  pub ended-beat : {h : List ℕ} {p q : PrefetchBuffer} {n half : ℕ} → InFlight p n → p .«wait_left» ≤ n → q ≡ ended t p
       → half ≡ romHalfword rom (p .«next_addr») → Ticked t rom n p h q (set h (slot p) half)
   ended-beat {h} {p} {q} {n} b l e r =
       let all : p .«wait_left» ≡ n = omega (arith, b .most) in

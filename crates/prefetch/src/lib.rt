@@ -13,7 +13,7 @@ ghost use Rattle.model.specs.Mirror as mirrored;
 ghost use Rattle.model.specs.Prefetch as def;
 ghost use Rattle.model.specs.Laws.Bounds.{SmallWaits};
 ghost use Rattle.model.specs.Laws.Sound.{Sound};
-ghost use Rattle.prefetch.specs.Beat.{Beat};
+ghost use Rattle.prefetch.specs.InFlight.{InFlight};
 ghost use Rattle.prefetch.specs.Found.{found, fetchedHalf};
 ghost use Rattle.prefetch.specs.Ticked.{Ticked};
 
@@ -196,7 +196,7 @@ fn run_beat(
     waits: [[u8; 2]; 3],
     rom: &[u8],
 ) -> PrefetchBuffer
-    requires { ⌜ Beat buffer step ⌝ }
+    requires { ⌜ InFlight buffer step ⌝ }
     ensures { λ r. ⌜ Ticked waits (now (rom .entry)) step buffer (now (halves .entry)) r (now (halves .exit)) ⌝ }
 {
     if step < buffer.wait_left {

@@ -12,7 +12,7 @@ use Rattle.model.specs.Base.{if_then_else_}
 use Rattle.model.specs.Sheet.{usesFlag, usesAddress, usesValue, fieldFault}
 use Rattle.model.specs.Laws.Choice.{choose, tests}
 use Rattle.model.specs.declared.SheetRecord.{SheetRecord}
-use Rattle.records.specs.Limits.{limitsOf, limitsFrom, kindLimits}
+use Rattle.records.specs.FieldLimits.{limitsOf, limitsFrom, kindLimits}
 use Rattle.records.proofs.KindBits.{past}
 
 -- the table's row k

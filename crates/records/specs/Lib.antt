@@ -1,2 +1,2 @@
 -- What the contracts of this crate cite, beside the model.
-pub mod Limits
+pub mod FieldLimits

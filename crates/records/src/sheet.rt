@@ -15,7 +15,7 @@ ghost use mathlib.Core.Path.{_≡_};
 ghost use Prim.Native.Nat.{_+_, _*_, _≤_};
 ghost use lib.ListN.{length};
 ghost use Rattle.model.specs.Sheet as def;
-ghost use Rattle.records.specs.Limits.{kindLimits};
+ghost use Rattle.records.specs.FieldLimits.{kindLimits};
 
 // ---- the header
 

@@ -11,25 +11,16 @@ Inv-loop answers n k₀ k = k ≤ n
 abbrev μ-loop : tie.MeasureT-loop
 μ-loop answers n k₀ k = n - k
 
-loop-holds : tie.Need-loop-holds Inv-loop μ-loop
-loop-holds c = omega arith
-
-print-answer-requires : tie.Need-print-answer-requires Inv-loop μ-loop
-print-answer-requires c κs = omega arith
-
-add-k : tie.Need-add-k Inv-loop μ-loop
-add-k c = omega arith
-
-loop-less : tie.Need-loop-less Inv-loop μ-loop
-loop-less c = omega arith
-
-loop-again : tie.Need-loop-again Inv-loop μ-loop
-loop-again c = omega arith
-
-returns : tie.Need-returns Inv-loop μ-loop
-returns c = search needs
-
 pub print-answers-spec : {M : Type 1} → statement M
 print-answers-spec =
     tie.close
-    (tie.spec Inv-loop μ-loop loop-holds print-answer-requires add-k loop-less loop-again returns)
+    (tie.spec
+    Inv-loop
+    μ-loop
+    (λ c. omega arith)
+    (λ c κs. omega arith)
+    (λ c. search needs)
+    (λ c. omega arith)
+    (λ c. omega arith)
+    (λ c. omega arith)
+    (λ c. search needs))

@@ -6,7 +6,7 @@ use Rattle.model.specs.Outcome.{Lent, outcomeBy, outcome, verdict}
 use Rattle.model.specs.declared.Verdict.the-variants.{Accepted}
 use Rattle.examine.specs.Lent.{lending}
 use Rattle.examine.specs.Verdicts.{index-small}
-use Rattle.bts.specs.Report.{refused-from}
+use Rattle.bts.specs.Reported.{refused-from}
 use Rattle.bts.proofs.bts_run.Statement.{statement}
 use Rattle.bts.proofs.bts_run.Tie as tie
 

@@ -6,7 +6,7 @@ use borrow.Author.Needs.{needs}
 use Rattle.model.specs.Outcome.{Lent}
 use Rattle.examine.specs.Lent.{lending}
 use Rattle.examine.specs.Verdicts.{Ready, ready}
-use Rattle.bts.specs.Report.{accepted-from}
+use Rattle.bts.specs.Reported.{accepted-from}
 use Rattle.bts.proofs.run_accepted.Statement.{statement}
 use Rattle.bts.proofs.run_accepted.Tie as tie
 

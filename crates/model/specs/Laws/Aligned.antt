@@ -24,7 +24,7 @@ use Rattle.model.specs.declared.Target.the-variants.{GamePakRom, Plain, 
 
 -- the bytes of the aligned word around an address are those of a list from a place on, and none of them is one that a load
 -- repeats
-pub record Rows (l : Lengths) (b : Bus) (a : ℕ) (xs : List ℕ) (q : ℕ) : Type 0 where
+pub record AlignedWord (l : Lengths) (b : Bus) (a : ℕ) (xs : List ℕ) (q : ℕ) : Type 0 where
   pub byte : (j : ℕ) → (a + j) / 4 ≡ a / 4 → load8 l b (a + j) ≡ byteAt xs (q + j)
   pub plain : (j : ℕ) → (a + j) / 4 ≡ a / 4 → isSram (target l (a + j)) ≡ false
 
@@ -35,32 +35,32 @@ number-low m n b i h =
     ∙ add-mul-mod-self-left (number m b i) (256 ^ m) (number n b (i + m))
     ∙ mod-eq-of-lt (number-below m i b h)
 
-module _ (l : Lengths) (b : Bus) (a : ℕ) (t : a < 2 ^ 32) (xs : List ℕ) (q : ℕ) (s : Rows l b a xs q) where
-  half-rows : (j : ℕ) → (a + j) / 4 ≡ a / 4 → (a + j + 1) / 4 ≡ a / 4 → load16 l b (a + j) ≡ number 2 xs (q + j)
+module _ (l : Lengths) (b : Bus) (a : ℕ) (t : a < 2 ^ 32) (xs : List ℕ) (q : ℕ) (s : AlignedWord l b a xs q) where
+  half-aligned : (j : ℕ) → (a + j) / 4 ≡ a / 4 → (a + j + 1) / 4 ≡ a / 4 → load16 l b (a + j) ≡ number 2 xs (q + j)
   unfolding load16
-  half-rows j h k =
+  half-aligned j h k =
       let next : further 1 (a + j) ≡ a + (j + 1) = omega arith in
       let place : q + (j + 1) ≡ q + j + 1 = omega arith in
       if-false _ _ _ (s .plain j h)
       ∙ rw next (omega (arith, s .byte j h, rw place at (s .byte (j + 1) (omega arith))))
 
-  load-rows : (z : AccessSize) → a % sizeBytes z ≡ 0 → load l b z a ≡ number (sizeBytes z) xs q
+  load-aligned : (z : AccessSize) → a % sizeBytes z ≡ 0 → load l b z a ≡ number (sizeBytes z) xs q
   unfolding load32
-  load-rows Byte h = rw (add-zero a, add-zero q) at (s .byte 0 (omega arith)) ∙ omega arith
-  load-rows Half h = rw (add-zero a, add-zero q) at (half-rows 0 (omega arith) (omega arith))
-  load-rows Word h =
+  load-aligned Byte h = rw (add-zero a, add-zero q) at (s .byte 0 (omega arith)) ∙ omega arith
+  load-aligned Half h = rw (add-zero a, add-zero q) at (half-aligned 0 (omega arith) (omega arith))
+  load-aligned Word h =
       let next : further 2 a ≡ a + 2 = omega arith in
       if-false _ _ _ (rw (add-zero a) at (s .plain 0 (omega arith)))
       ∙ rw next
-      (ap₂ (λ (x y : ℕ). x + 0x1_0000 * y) (rw (add-zero a, add-zero q) at (half-rows 0 (omega arith) (omega arith)))
-      (half-rows 2 (omega arith) (omega arith)))
+      (ap₂ (λ (x y : ℕ). x + 0x1_0000 * y) (rw (add-zero a, add-zero q) at (half-aligned 0 (omega arith) (omega arith)))
+      (half-aligned 2 (omega arith) (omega arith)))
       ∙ sym (number-add 2 2 xs q)
 
   -- whatever the size, out of the word that stands there
-  pub rows-load : AllBytes xs → (z : AccessSize) → a % sizeBytes z ≡ 0 → load l b z a ≡ number 4 xs q % 256 ^ sizeBytes z
-  rows-load k Byte h = load-rows Byte h ∙ sym (number-low 1 3 xs q k)
-  rows-load k Half h = load-rows Half h ∙ sym (number-low 2 2 xs q k)
-  rows-load k Word h = load-rows Word h ∙ sym (number-low 4 0 xs q k)
+  pub aligned-load : AllBytes xs → (z : AccessSize) → a % sizeBytes z ≡ 0 → load l b z a ≡ number 4 xs q % 256 ^ sizeBytes z
+  aligned-load k Byte h = load-aligned Byte h ∙ sym (number-low 1 3 xs q k)
+  aligned-load k Half h = load-aligned Half h ∙ sym (number-low 2 2 xs q k)
+  aligned-load k Word h = load-aligned Word h ∙ sym (number-low 4 0 xs q k)
 
 -- ---- the memories whose bytes stand so
 
@@ -69,9 +69,9 @@ unfolding byteIn
 byte-there s p i k e h = rw e (if-true _ _ _ (lt-ltb i (p .size) h))
 
 module _ (l : Lengths) (b : Bus) (a : ℕ) where
-  pub plain-rows : (p : Part) (i : ℕ) → target l a ≡ Plain p i → i + 4 ≤ p .size → Rows l b a (b .store) (p .base + i)
+  pub plain-aligned : (p : Part) (i : ℕ) → target l a ≡ Plain p i → i + 4 ≤ p .size → AlignedWord l b a (b .store) (p .base + i)
   unfolding load8
-  plain-rows p i e h =
+  plain-aligned p i e h =
       record {
         byte = λ j k. ap (byteFrom b (a + j)) (there j k)
             ∙ byte-there (b .store) p (i + j) _ (place j k) (omega arith) ∙ ap (byteAt (b .store)) (omega arith);
@@ -90,10 +90,10 @@ module _ (l : Lengths) (b : Bus) (a : ℕ) where
       place : (j : ℕ) → (a + j) / 4 ≡ a / 4 → around i ((a + j) % 4) ≡ i + j
       place j k = omega (arith, own)
 
-  pub video-rows : (m : VideoMemory) (p : Part) (i : ℕ) → target l a ≡ Video m p i
-      → i + 4 ≤ p .size → Rows l b a (b .store) (p .base + i)
+  pub video-aligned : (m : VideoMemory) (p : Part) (i : ℕ) → target l a ≡ Video m p i
+      → i + 4 ≤ p .size → AlignedWord l b a (b .store) (p .base + i)
   unfolding load8
-  video-rows m p i e h =
+  video-aligned m p i e h =
       record {
         byte = λ j k. ap (byteFrom b (a + j)) (there j k)
             ∙ byte-there (b .store) p (i + j) _ (place j k) (omega arith) ∙ ap (byteAt (b .store)) (omega arith);
@@ -112,9 +112,9 @@ module _ (l : Lengths) (b : Bus) (a : ℕ) where
       place : (j : ℕ) → (a + j) / 4 ≡ a / 4 → around i ((a + j) % 4) ≡ i + j
       place j k = omega (arith, own)
 
-  pub rom-rows : target l a ≡ GamePakRom → Rows l b a (b .rom) (romOffset a)
+  pub rom-aligned : target l a ≡ GamePakRom → AlignedWord l b a (b .rom) (romOffset a)
   unfolding load8
-  rom-rows e =
+  rom-aligned e =
       record {
         byte = λ j k. ap (byteFrom b (a + j)) (there j k) ∙ ap (byteAt (b .rom)) (omega arith);
         plain = λ j k. ap isSram (there j k);

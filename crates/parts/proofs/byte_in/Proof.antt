@@ -1,6 +1,6 @@
 -- `byte_in` meets its contract: the leaf reads the lent part. Assumes nothing.
 use mathlib.Core.Path.{_∙_}
-use Rattle.parts.proofs.Lent.{part-byte}
+use Rattle.parts.proofs.LentPart.{part-byte}
 use borrow.Author.Needs.{needs}
 use Rattle.parts.proofs.byte_in.Statement.{statement}
 use Rattle.parts.proofs.byte_in.Tie as tie

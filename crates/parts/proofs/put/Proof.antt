@@ -1,5 +1,5 @@
 -- `put` meets its contract: the leaf writes the lent part, and the byte lands in the store. Assumes nothing.
-use Rattle.parts.proofs.Lent.{stored-part}
+use Rattle.parts.proofs.LentPart.{stored-part}
 use borrow.Author.Needs.{needs}
 use Rattle.parts.proofs.put.Statement.{statement}
 use Rattle.parts.proofs.put.Tie as tie

@@ -1,5 +1,5 @@
 -- `put_two` meets its contract: two bytes land, one behind the other. Assumes nothing.
-use Rattle.parts.proofs.Lent.{two-land}
+use Rattle.parts.proofs.LentPart.{two-land}
 use borrow.Author.Needs.{needs}
 use Rattle.parts.proofs.put_two.Statement.{statement}
 use Rattle.parts.proofs.put_two.Tie as tie

@@ -1,6 +1,6 @@
 -- `put_word` meets its contract: four bytes land, in two pairs. Assumes nothing.
 use Rattle.model.specs.Base.{lowered}
-use Rattle.parts.proofs.Lent.{four-land}
+use Rattle.parts.proofs.LentPart.{four-land}
 use borrow.Author.Needs.{needs}
 use Rattle.parts.proofs.put_word.Statement.{statement}
 use Rattle.parts.proofs.put_word.Tie as tie

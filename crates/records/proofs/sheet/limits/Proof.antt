@@ -1,6 +1,6 @@
 -- `records::sheet::limits` meets its contract: antt computes the rows. Assumes nothing.
 use borrow.Author.Needs.{needs}
-use Rattle.records.specs.Limits.{limitsFrom}
+use Rattle.records.specs.FieldLimits.{limitsFrom}
 use Rattle.records.proofs.sheet.limits.Statement.{statement}
 use Rattle.records.proofs.sheet.limits.Tie as tie
 

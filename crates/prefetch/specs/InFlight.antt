@@ -5,7 +5,7 @@ use Prim.Native.Nat.{ℕ, _≤_}
 use Rattle.model.specs.declared.PrefetchBuffer.{PrefetchBuffer}
 
 -- a beat is in flight that has `n` cycles left or more, and a place for its halfword
-pub record Beat (p : PrefetchBuffer) (n : ℕ) : Type 0 where
+pub record InFlight (p : PrefetchBuffer) (n : ℕ) : Type 0 where
   pub on : p .enabled ≡ true
   pub fills : p .filling ≡ true
   pub some : 1 ≤ n
