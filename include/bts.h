@@ -17,15 +17,32 @@
  *
  * Who owns what: the caller, everything. The library allocates nothing, keeps no pointer and no state from call to call, reads
  * and writes no file, and never writes sheet, BIOS or ROM. Threads may call it at once on different boards, stores and answers;
- * they may share a sheet, a BIOS and a ROM. */
+ * they may share a sheet, a BIOS and a ROM.
+ *
+ * The library is machine code for Linux on x86-64 (System V, ELF, 64-bit pointers); elsewhere this header is an error. With
+ * BTS_NO_LIBRARY defined, bts_run is not declared, and the rest (layouts, names, helpers) is plain C99 or C++11 for any machine:
+ * enough to make sheets and to read boards and answers there. */
 #ifndef BTS_H
 #define BTS_H
+
+#if !defined(BTS_NO_LIBRARY) && !(defined(__x86_64__) && defined(__linux__) && defined(__ELF__) && !defined(__ILP32__))
+#error "libbts.a is for Linux on x86-64 (System V, ELF, 64-bit pointers); BTS_NO_LIBRARY gives this header without bts_run"
+#endif
+
+/* The version of this header with its library: MAJOR rises when a caller must change, MINOR when something is added. (The version
+ * of a sheet is BTS_VERSION.) */
+#define BTS_LIBRARY_MAJOR 1
+#define BTS_LIBRARY_MINOR 0
+#define BTS_LIBRARY_VERSION "1.0"
 
 #include <stddef.h>
 #include <stdint.h>
 
 #ifdef __cplusplus
+#define BTS_CAST(type, number) static_cast<type>(number)
 extern "C" {
+#else
+#define BTS_CAST(type, number) ((type)(number))
 #endif
 
 /* ---- what the run gives back */
@@ -46,14 +63,41 @@ typedef struct {
 
 enum {
     BTS_OK = 0,
-    BTS_BAD_MARK = 1,      /* the sheet is under 8 bytes or doesn't begin with "BTS" */
-    BTS_BAD_VERSION = 2,   /* its version is not 1 */
-    BTS_BAD_SHAPE = 3,     /* its byte 5 is not 0, it has over 4,096 records, or its length is not 8 + 12 a record */
-    BTS_BAD_LENGTHS = 4,   /* a memory is longer than its physical size, or the seven lengths don't add up to store_len */
-    BTS_UNSOUND_BOARD = 5, /* the board is not 72 bytes or not sound */
-    BTS_SHORT_ANSWERS = 6, /* the answers are shorter than 12 bytes a record */
-    BTS_FAULTY_RECORD = 7  /* record `index` breaks the layout of a record or the table of kinds */
+    BTS_BAD_MARK = 1,
+    BTS_BAD_VERSION = 2,
+    BTS_BAD_SHAPE = 3,
+    BTS_BAD_LENGTHS = 4,
+    BTS_UNSOUND_BOARD = 5,
+    BTS_SHORT_ANSWERS = 6,
+    BTS_FAULTY_RECORD = 7,
+    BTS_REFUSALS = 8 /* how many numbers there are, BTS_OK among them */
 };
+
+/* The name of each number and what it says. */
+static inline const char *const *bts_refusal_row(uint32_t number) {
+    static const char *const rows[BTS_REFUSALS + 1][2] = {
+        {"BTS_OK", "accepted"},
+        {"BTS_BAD_MARK", "the sheet is under 8 bytes or doesn't begin with BTS"},
+        {"BTS_BAD_VERSION", "the sheet's version is not 1"},
+        {"BTS_BAD_SHAPE", "the sheet's byte 5 is not 0, it has over 4096 records, or its length is not 8 + 12 a record"},
+        {"BTS_BAD_LENGTHS", "a memory is longer than its physical size, or the seven lengths don't add up to the store's"},
+        {"BTS_UNSOUND_BOARD", "the board is not 72 bytes or not sound"},
+        {"BTS_SHORT_ANSWERS", "the answers are shorter than 12 bytes a record"},
+        {"BTS_FAULTY_RECORD", "the record breaks the layout of a record or the table of kinds"},
+        {"unknown", "this number is none that bts_run gives"},
+    };
+    return rows[number < BTS_REFUSALS ? number : BTS_CAST(uint32_t, BTS_REFUSALS)];
+}
+
+/* For any number: "BTS_BAD_MARK" for 1, and so on. */
+static inline const char *bts_refusal_name(uint32_t number) {
+    return bts_refusal_row(number)[0];
+}
+
+/* For any number: a sentence without its full stop. */
+static inline const char *bts_refusal_text(uint32_t number) {
+    return bts_refusal_row(number)[1];
+}
 
 /* ---- lengths, in bytes */
 
@@ -94,14 +138,14 @@ enum {
     BTS_IDLE = 4,        /* value: so many cycles in which the cartridge bus is free */
     BTS_FETCH = 5,       /* address: a halfword asked of the prefetch */
     BTS_RESTART = 6,     /* address: the prefetch starts anew there */
-    BTS_INSTRUCTION = 7, /* size 2 Thumb, 4 ARM; address; value = opcode (Thumb: low 16 bits, the rest ignored); flag 1 = pc changed */
+    BTS_INSTRUCTION = 7, /* size 2 Thumb, 4 ARM; address; value: opcode (Thumb: low 16 bits, others ignored); flag 1: pc changed */
     BTS_PC = 8,          /* address: the pc, which opens the BIOS to loads below 0x4000 */
     BTS_LATCH = 9        /* value: what BIOS loads give while it is closed */
 };
 
 /* ---- the board
  *
- * A fresh board is BTS_BOARD_SIZE zero bytes. The places of its fields: */
+ * A fresh board is BTS_BOARD_SIZE zero bytes. The places of its fields, each of which has a reader among the helpers below: */
 
 enum {
     BTS_BOARD_WAITCNT = 0,       /* 2 bytes */
@@ -138,7 +182,7 @@ enum {
  * the step. */
 
 typedef struct {
-    uint32_t value;  /* READ: the data; FETCH: the halfword, 0 on a miss; INSTRUCTION: its cycles with the cartridge bus free; else 0 */
+    uint32_t value;  /* READ: data; FETCH: halfword, 0 on a miss; INSTRUCTION: its cycles with the cartridge bus free; else 0 */
     uint32_t cycles;
     uint8_t hits;    /* halfwords that FETCH or INSTRUCTION took from the prefetch; else 0 */
     uint8_t count;   /* halfwords that stand in the prefetch */
@@ -147,6 +191,7 @@ typedef struct {
 
 /* ---- the run */
 
+#ifndef BTS_NO_LIBRARY
 bts_report bts_run(const uint8_t *sheet, size_t sheet_len,
                    uint8_t *board, size_t board_len,
                    uint8_t *store, size_t store_len,
@@ -154,6 +199,7 @@ bts_report bts_run(const uint8_t *sheet, size_t sheet_len,
                    const uint8_t *rom, size_t rom_len,
                    uint8_t *answers, size_t answers_len,
                    size_t ewram, size_t iwram, size_t io, size_t palette, size_t vram, size_t oam, size_t sram);
+#endif
 
 /* ---- helpers, which need no library */
 
@@ -171,20 +217,26 @@ static inline uint8_t *bts_room(uint8_t *bytes) {
 
 /* A number's 4 bytes, written. */
 static inline void bts_put32(uint8_t *at, uint32_t number) {
-    at[0] = (uint8_t)(number & 0xFF);
-    at[1] = (uint8_t)(number >> 8 & 0xFF);
-    at[2] = (uint8_t)(number >> 16 & 0xFF);
-    at[3] = (uint8_t)(number >> 24);
+    at[0] = BTS_CAST(uint8_t, number & 0xFF);
+    at[1] = BTS_CAST(uint8_t, number >> 8 & 0xFF);
+    at[2] = BTS_CAST(uint8_t, number >> 16 & 0xFF);
+    at[3] = BTS_CAST(uint8_t, number >> 24);
 }
 
-/* A number's 4 bytes, read. */
+/* A number's 2, 4 or 8 bytes, read. */
+static inline uint16_t bts_get16(const uint8_t *at) {
+    return BTS_CAST(uint16_t, at[0] | at[1] << 8);
+}
 static inline uint32_t bts_get32(const uint8_t *at) {
-    return (uint32_t)at[0] | (uint32_t)at[1] << 8 | (uint32_t)at[2] << 16 | (uint32_t)at[3] << 24;
+    return bts_get16(at) | BTS_CAST(uint32_t, bts_get16(at + 2)) << 16;
+}
+static inline uint64_t bts_get64(const uint8_t *at) {
+    return bts_get32(at) | BTS_CAST(uint64_t, bts_get32(at + 4)) << 32;
 }
 
 /* The BTS_HEADER_SIZE bytes in front of `records` records, at most BTS_MOST_RECORDS. */
 static inline void bts_put_header(uint8_t *sheet, uint32_t records) {
-    bts_put32(sheet, 0x00535442 | (uint32_t)BTS_VERSION << 24);
+    bts_put32(sheet, 0x00535442 | BTS_CAST(uint32_t, BTS_VERSION) << 24);
     bts_put32(sheet + 4, records << 16);
 }
 
@@ -210,6 +262,27 @@ static inline bts_answer bts_answer_at(const uint8_t *answers, size_t k) {
     answer.count = at[9];
     answer.force = at[10];
     return answer;
+}
+
+/* The fields of a board of BTS_BOARD_SIZE bytes; what they mean stands at their places above. */
+static inline uint16_t bts_board_waitcnt(const uint8_t *board) { return bts_get16(board + BTS_BOARD_WAITCNT); }
+static inline uint8_t bts_board_force(const uint8_t *board) { return board[BTS_BOARD_FORCE]; }
+static inline uint8_t bts_board_head(const uint8_t *board) { return board[BTS_BOARD_HEAD]; }
+static inline uint8_t bts_board_count(const uint8_t *board) { return board[BTS_BOARD_COUNT]; }
+static inline uint8_t bts_board_filling(const uint8_t *board) { return board[BTS_BOARD_FILLING]; }
+static inline uint8_t bts_board_first_beat(const uint8_t *board) { return board[BTS_BOARD_FIRST_BEAT]; }
+static inline uint32_t bts_board_wait_left(const uint8_t *board) { return bts_get32(board + BTS_BOARD_WAIT_LEFT); }
+static inline uint32_t bts_board_next_address(const uint8_t *board) { return bts_get32(board + BTS_BOARD_NEXT_ADDRESS); }
+static inline uint32_t bts_board_head_address(const uint8_t *board) { return bts_get32(board + BTS_BOARD_HEAD_ADDRESS); }
+static inline uint32_t bts_board_pc(const uint8_t *board) { return bts_get32(board + BTS_BOARD_PC); }
+static inline uint32_t bts_board_latch(const uint8_t *board) { return bts_get32(board + BTS_BOARD_LATCH); }
+static inline uint64_t bts_board_vram_stores(const uint8_t *board) { return bts_get64(board + BTS_BOARD_VRAM_STORES); }
+static inline uint64_t bts_board_oam_stores(const uint8_t *board) { return bts_get64(board + BTS_BOARD_OAM_STORES); }
+static inline uint64_t bts_board_palette_stores(const uint8_t *board) { return bts_get64(board + BTS_BOARD_PALETTE_STORES); }
+
+/* Place k, from 0 to 7, of the prefetch. Those that stand are the `count` places from `head` on, and from 7 on to 0. */
+static inline uint16_t bts_board_halfword(const uint8_t *board, size_t k) {
+    return bts_get16(board + BTS_BOARD_HALFWORDS + 2 * k);
 }
 
 #ifdef __cplusplus
