@@ -138,7 +138,7 @@ enum {
     BTS_IDLE = 4,        /* value: so many cycles in which the cartridge bus is free */
     BTS_FETCH = 5,       /* address: a halfword asked of the prefetch */
     BTS_RESTART = 6,     /* address: the prefetch starts anew there */
-    BTS_INSTRUCTION = 7, /* size 2 Thumb, 4 ARM; address; value: opcode (Thumb: low 16 bits, others ignored); flag 1: pc changed */
+    BTS_INSTRUCTION = 7, /* size 2 Thumb, 4 ARM; address; value: opcode (Thumb: low 16 bits, rest ignored); flag 1: pc changed */
     BTS_PC = 8,          /* address: the pc, which opens the BIOS to loads below 0x4000 */
     BTS_LATCH = 9        /* value: what BIOS loads give while it is closed */
 };
