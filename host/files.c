@@ -1,15 +1,18 @@
 /* Files in and out. */
-#define _XOPEN_SOURCE 700 /* lstat, sigprocmask */
+#define _XOPEN_SOURCE 700 /* open, fchmod, sigprocmask */
 
 #include "files.h"
 
 #include <errno.h>
+#include <fcntl.h>
 #include <signal.h>
 #include <stdio.h>
 #include <stdlib.h>
 #include <string.h>
 #include <sys/stat.h>
+#include <unistd.h>
 
+#include "apart.h"
 #include "say.h"
 
 /* ---- reading */
@@ -44,16 +47,16 @@ static bool read_stream(FILE *stream, size_t most, struct bytes *out) {
     return !ferror(stream);
 }
 
-bool read_file(const char *path, size_t most, struct bytes *out) {
+bool read_input(const char *path, size_t most, struct input *input) {
     FILE *stream = path != NULL ? fopen(path, "rb") : stdin;
-    const char *name = path != NULL ? path : "standard input";
+    input->name = path != NULL ? path : "standard input";
     if (stream == NULL) {
-        complain("can't open %s: %s", name, strerror(errno));
+        complain("can't open %s: %s", input->name, strerror(errno));
         return false;
     }
-    bool good = read_stream(stream, most, out);
+    bool good = identify(fileno(stream), &input->file) && read_stream(stream, most, &input->bytes);
     if (!good) {
-        complain("can't read %s: %s", name, strerror(errno));
+        complain("can't read %s: %s", input->name, strerror(errno));
     }
     if (path != NULL) {
         fclose(stream); /* nothing was written to it, so there is nothing to lose */
@@ -63,18 +66,8 @@ bool read_file(const char *path, size_t most, struct bytes *out) {
 
 /* ---- writing */
 
-/* A rename would put a file where a device, a directory or a link stood. */
-static bool may_replace(const char *path) {
-    struct stat there;
-    if (lstat(path, &there) != 0 || S_ISREG(there.st_mode)) {
-        return true;
-    }
-    complain("can't write %s: it is there and is no regular file", path);
-    return false;
-}
-
 static bool fill(FILE *stream, const struct output *output) {
-    bool written = fwrite(output->at, 1, output->len, stream) == output->len;
+    bool written = fwrite(output->bytes.at, 1, output->bytes.len, stream) == output->bytes.len;
     int error = errno;
     bool closed = fclose(stream) == 0;
     if (!written) {
@@ -83,23 +76,39 @@ static bool fill(FILE *stream, const struct output *output) {
     return written && closed;
 }
 
-/* Writes an output beside its place. The temporary's name is made from the output's alone, and must be new: so two outputs of
- * this or another run that are to go to one place meet here, before anything is in place. */
+/* Opens the temporary beside the output's place. It must be new, so that two runs that write to one place meet here, before
+ * anything is in place. It is never open to more people than the file whose place it takes, and gets that file's mode. */
+static FILE *open_temporary(const char *path, const char *name) {
+    struct stat old;
+    bool replaces = stat(path, &old) == 0;
+    mode_t mode = replaces ? old.st_mode & 0777 : 0666; /* of a new file the user's mask takes its part */
+    int file = open(name, O_WRONLY | O_CREAT | O_EXCL | O_CLOEXEC, mode);
+    if (file < 0 && errno == EEXIST) {
+        complain("can't write %s: %s is there already: another btsrun is writing %s, or one was stopped; remove it if none is running",
+                 path, name, path);
+        return NULL;
+    }
+    FILE *stream = file >= 0 && (!replaces || fchmod(file, mode) == 0) ? fdopen(file, "wb") : NULL;
+    if (stream == NULL) {
+        complain("can't write %s: %s", name, strerror(errno));
+    }
+    if (stream == NULL && file >= 0) {
+        close(file);
+        remove(name);
+    }
+    return stream;
+}
+
+/* Writes an output beside its place. */
 static bool write_temporary(struct output *output) {
-    static const char suffix[] = ".btsrun-tmp";
-    size_t len = strlen(output->path) + sizeof suffix;
+    size_t len = strlen(output->path) + sizeof TEMPORARY_SUFFIX;
     char *name = malloc(len);
     if (name == NULL) {
         complain("can't write %s: out of memory", output->path);
         return false;
     }
-    snprintf(name, len, "%s%s", output->path, suffix);
-    FILE *stream = fopen(name, "wbx");
-    if (stream == NULL && errno == EEXIST) {
-        complain("can't write %s: %s is there already; another run is writing it, or one was cut off", output->path, name);
-    } else if (stream == NULL) {
-        complain("can't write %s: %s", name, strerror(errno));
-    }
+    snprintf(name, len, "%s%s", output->path, TEMPORARY_SUFFIX);
+    FILE *stream = open_temporary(output->path, name);
     if (stream == NULL) {
         free(name);
         return false;
@@ -114,7 +123,7 @@ static bool write_temporary(struct output *output) {
 
 static bool write_temporaries(struct output *outputs, size_t count) {
     for (size_t i = 0; i < count; i++) {
-        if (outputs[i].path != NULL && !(may_replace(outputs[i].path) && write_temporary(&outputs[i]))) {
+        if (outputs[i].path != NULL && !write_temporary(&outputs[i])) {
             return false;
         }
     }
@@ -168,12 +177,15 @@ static bool write_all_or_none(struct output *outputs, size_t count) {
 
 /* A signal that ended the program here would leave temporaries behind, so signals wait until it is done. That a file would be
  * longer than the user's limit is made an error like a full disk, since it would end the program too. */
-bool write_outputs(struct output *outputs, size_t count) {
+bool write_outputs(const struct input *inputs, size_t input_count, struct output *outputs, size_t output_count) {
     sigset_t all, before;
+    if (!stand_apart(inputs, input_count, outputs, output_count)) {
+        return false;
+    }
     sigfillset(&all);
     sigprocmask(SIG_BLOCK, &all, &before);
     signal(SIGXFSZ, SIG_IGN);
-    bool good = write_all_or_none(outputs, count);
+    bool good = write_all_or_none(outputs, output_count);
     sigprocmask(SIG_SETMASK, &before, NULL);
     return good;
 }

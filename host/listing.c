@@ -4,6 +4,7 @@
 
 #include <stdarg.h>
 #include <stdio.h>
+#include <stdlib.h>
 #include <string.h>
 
 #include "kinds.h"
@@ -22,7 +23,7 @@ struct reader {
     const char *file;
     unsigned long line;
     unsigned faults;
-    bool full; /* a step was met for which the sheet has no room */
+    bool full; /* a step was met for which there is no memory left */
     const struct form *form;
     struct word words[WORDS_MOST];
     size_t count; /* words of the line */
@@ -204,9 +205,9 @@ static bool is_text(struct reader *reader, const char *line, size_t len) {
     return memchr(line, '\r', len) == NULL || fault(reader, "the line has a carriage return that doesn't end it");
 }
 
-/* Whether the line has a step, which is then record k of the sheet. A bad line has none and is told. */
-static bool read_line(struct reader *reader, const char *line, size_t len, struct sheet *sheet, size_t k) {
-    struct step step = {0};
+/* Whether the line has a step. A bad line has none and is told. */
+static bool read_line(struct reader *reader, const char *line, size_t len, struct step *step) {
+    *step = (struct step){0};
     reader->line++;
     if (len > 0 && line[len - 1] == '\r') {
         len--;
@@ -223,37 +224,73 @@ static bool read_line(struct reader *reader, const char *line, size_t len, struc
         return fault_unknown(reader, reader->words[0]);
     }
     reader->next = 1;
-    if (!take_operands(reader, &step)) {
+    return take_operands(reader, step);
+}
+
+/* ---- the sheet */
+
+/* Room for one record more: as many again as there are, from 128 on. */
+static bool has_room(struct bytes *sheet, size_t *room) {
+    if (sheet->len + BTS_RECORD_SIZE <= *room) {
+        return true;
+    }
+    size_t wanted = sheet->len + (sheet->len > 128 * BTS_RECORD_SIZE ? sheet->len : 128 * BTS_RECORD_SIZE);
+    uint8_t *at = realloc(sheet->at, wanted);
+    if (at == NULL) {
         return false;
     }
-    reader->full = k == BTS_MOST_RECORDS;
-    if (reader->full) {
-        return fault(reader, "step %d: a sheet has at most %d", BTS_MOST_RECORDS + 1, BTS_MOST_RECORDS);
-    }
-    bts_put_record(sheet->bytes, k, reader->form->kind, step.size, step.flag, step.address, step.value);
+    sheet->at = at;
+    *room = wanted;
     return true;
 }
 
-bool assemble(const char *file, const uint8_t *text, size_t len, struct sheet *sheet) {
+/* Puts the step behind the others. */
+static void add(struct reader *reader, const struct step *step, struct bytes *sheet, size_t *room) {
+    size_t k = (sheet->len - BTS_HEADER_SIZE) / BTS_RECORD_SIZE;
+    reader->full = !has_room(sheet, room);
+    if (reader->full) {
+        fault(reader, "there is no memory for step %zu", k + 1);
+        return;
+    }
+    bts_put_record(sheet->at, k, reader->form->kind, step->size, step->flag, step->address, step->value);
+    sheet->len += BTS_RECORD_SIZE;
+}
+
+/* All lines, up to too many bad ones. */
+static bool read_lines(struct reader *reader, const char *at, size_t len, struct bytes *sheet) {
+    size_t room = sheet->len;
+    struct step step;
+    while (len > 0 && reader->faults < FAULTS_MOST && !reader->full) {
+        const char *end = memchr(at, '\n', len);
+        size_t line = end != NULL ? (size_t)(end - at) : len;
+        size_t past = end != NULL ? line + 1 : line;
+        if (read_line(reader, at, line, &step)) {
+            add(reader, &step, sheet, &room);
+        }
+        at += past;
+        len -= past;
+    }
+    if (len > 0 && reader->faults == FAULTS_MOST) {
+        complain("%s: %d bad lines; the rest is left unread", reader->file, FAULTS_MOST);
+    }
+    return reader->faults == 0;
+}
+
+bool assemble(const char *file, const uint8_t *text, size_t len, struct bytes *sheet) {
     struct reader reader = {.file = file};
-    const char *at = (const char *)text;
-    uint32_t records = 0;
     if (len > LISTING_MOST) {
         complain("%s is longer than %d bytes, which no listing is", file, LISTING_MOST);
         return false;
     }
-    while (len > 0 && reader.faults < FAULTS_MOST && !reader.full) {
-        const char *end = memchr(at, '\n', len);
-        size_t line = end != NULL ? (size_t)(end - at) : len;
-        size_t past = end != NULL ? line + 1 : line;
-        records += read_line(&reader, at, line, sheet, records);
-        at += past;
-        len -= past;
+    sheet->at = calloc(BTS_HEADER_SIZE, 1);
+    if (sheet->at == NULL) {
+        complain("out of memory");
+        return false;
     }
-    if (len > 0 && reader.faults == FAULTS_MOST) {
-        complain("%s: %d bad lines; the rest is left unread", file, FAULTS_MOST);
+    sheet->len = BTS_HEADER_SIZE;
+    bool good = read_lines(&reader, (const char *)text, len, sheet);
+    if (sheet->len <= BTS_MOST_SHEET) {
+        bts_put_header(sheet->at, (uint32_t)((sheet->len - BTS_HEADER_SIZE) / BTS_RECORD_SIZE));
     }
-    bts_put_header(sheet->bytes, records);
-    sheet->len = BTS_HEADER_SIZE + BTS_RECORD_SIZE * (size_t)records;
-    return reader.faults == 0;
+    return good;
 }

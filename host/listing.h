@@ -7,6 +7,7 @@
 #include <stdint.h>
 
 #include "bts.h"
+#include "files.h"
 
 enum {
     LISTING_MOST = 4 * 1024 * 1024, /* bytes; over it the input is taken for something else than a listing */
@@ -14,14 +15,9 @@ enum {
     FAULTS_MOST = 20                /* bad lines that are told before the rest is left unread */
 };
 
-/* Room for one byte more than the longest sheet, so that one read from a file can be seen to be too long. */
-struct sheet {
-    uint8_t bytes[BTS_MOST_SHEET + 1];
-    size_t len;
-};
-
-/* Makes the sheet of a listing. Each bad line is told on standard error, as FILE:LINE: what is wrong with it; then the sheet is
- * not to be used and false is given back. */
-bool assemble(const char *file, const uint8_t *text, size_t len, struct sheet *sheet);
+/* Makes the sheet of a listing, to be freed by the caller: room for a header, and the records behind it. There may be more of them
+ * than a sheet holds; then the header is no header. Each bad line is told on standard error, as FILE:LINE: what is wrong with it;
+ * then the sheet is not to be used and false is given back. */
+bool assemble(const char *file, const uint8_t *text, size_t len, struct bytes *sheet);
 
 #endif

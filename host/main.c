@@ -11,121 +11,143 @@
 #include "files.h"
 #include "listing.h"
 #include "options.h"
+#include "runs.h"
 #include "say.h"
 #include "show.h"
+#include "store.h"
 
 enum { DONE = 0, REFUSED = 1, FAILED = 2 };
 
-/* The memories of the lent store, in its order. */
-enum { EWRAM, IWRAM, IO, PALETTE, VRAM, OAM, SRAM, MEMORIES };
+/* The files that may be read. */
+enum { IN_STEPS, IN_BOARD, IN_BIOS, IN_ROM, IN_SRAM, IN_STORE, INPUTS };
 
-static const size_t bench_lengths[MEMORIES] = {16384, 16384, 2052, 1024, 16384, 1024, 8192};
-static const size_t full_lengths[MEMORIES] = {BTS_EWRAM_SIZE, BTS_IWRAM_SIZE, BTS_IO_SIZE, BTS_PALETTE_SIZE,
-                                              BTS_VRAM_SIZE,  BTS_OAM_SIZE,   BTS_SRAM_SIZE};
-
-/* All that is lent to the run. */
-struct lent {
-    struct sheet sheet;
-    uint8_t answers[BTS_ANSWER_SIZE * BTS_MOST_RECORDS];
-    struct bytes board, bios, rom, store;
-    size_t lengths[MEMORIES];
+/* All that a run takes, and its answers. */
+struct job {
+    struct input inputs[INPUTS]; /* a board and a store that no file gives are made in their places */
+    struct bytes sheet;          /* from a listing; it may have more records than a sheet holds */
+    uint8_t *answers;
+    struct machine machine;
 };
 
-static bool read_listing(const char *path, struct sheet *sheet) {
-    struct bytes text = {NULL, 0};
-    bool good = read_file(path, LISTING_MOST + 1, &text) &&
-                assemble(path != NULL ? path : "stdin", text.at, text.len, sheet);
-    free(text.at);
-    return good;
-}
+/* ---- in */
 
-/* Up to one byte more than the longest sheet; the run sees what is wrong with it. */
-static bool read_sheet(const char *path, struct sheet *sheet) {
-    struct bytes bytes = {NULL, 0};
-    bool good = read_file(strcmp(path, "-") != 0 ? path : NULL, sizeof sheet->bytes, &bytes);
-    if (good) {
-        memcpy(sheet->bytes, bytes.at, bytes.len);
-        sheet->len = bytes.len;
+/* The sheet itself is read up to one byte more than the longest; the run sees what is wrong with it. */
+static bool read_steps(const struct options *options, struct job *job) {
+    struct input *input = &job->inputs[IN_STEPS];
+    if (options->sheet != NULL) {
+        bool is_stdin = strcmp(options->sheet, "-") == 0;
+        return read_input(is_stdin ? NULL : options->sheet, BTS_MOST_SHEET + 1, input);
     }
-    free(bytes.at);
-    return good;
+    return read_input(options->listing, LISTING_MOST + 1, input) &&
+           assemble(options->listing != NULL ? options->listing : "stdin", input->bytes.at, input->bytes.len, &job->sheet);
 }
 
-/* An image that may be absent. One byte over its size is enough for the run to refuse it. */
-static bool read_image(const char *path, size_t size, struct bytes *out) {
-    return path == NULL || read_file(path, size + 1, out);
+/* A file that may be absent. One byte over its size is enough for the run to refuse it. */
+static bool read_image(const char *path, size_t size, struct input *input) {
+    return path == NULL || read_input(path, size + 1, input);
 }
 
-static bool read_board(const char *path, struct bytes *board) {
+static bool read_board(const char *path, struct input *input) {
     if (path != NULL) {
-        return read_file(path, BTS_BOARD_SIZE + 1, board);
+        return read_input(path, BTS_BOARD_SIZE + 1, input);
     }
-    board->at = calloc(BTS_BOARD_SIZE, 1);
-    board->len = BTS_BOARD_SIZE;
-    if (board->at == NULL) {
+    input->bytes = (struct bytes){calloc(BTS_BOARD_SIZE, 1), BTS_BOARD_SIZE};
+    if (input->bytes.at == NULL) {
         complain("out of memory");
     }
-    return board->at != NULL;
+    return input->bytes.at != NULL;
 }
 
-/* The store: zeros, and the SRAM image at its end. */
-static bool make_store(const struct options *options, struct lent *lent) {
-    struct bytes sram = {NULL, 0};
-    memcpy(lent->lengths, options->full ? full_lengths : bench_lengths, sizeof lent->lengths);
-    if (!read_image(options->sram, BTS_SRAM_SIZE, &sram)) {
-        free(sram.at);
+/* Whether the sheet can be written, if that is asked for. */
+static bool fits_sheet(const struct options *options, const struct job *job) {
+    if (options->sheet_out == NULL || job->sheet.len <= BTS_MOST_SHEET) {
+        return true;
+    }
+    complain("-o can't write %zu steps: a sheet holds at most %d", (job->sheet.len - BTS_HEADER_SIZE) / BTS_RECORD_SIZE,
+             BTS_MOST_RECORDS);
+    return false;
+}
+
+static bool read_inputs(const struct options *options, struct job *job) {
+    struct input *in = job->inputs;
+    return read_steps(options, job) && fits_sheet(options, job) && read_board(options->board, &in[IN_BOARD]) &&
+           read_image(options->bios, BTS_BIOS_SIZE, &in[IN_BIOS]) && read_image(options->rom, BTS_ROM_SIZE, &in[IN_ROM]) &&
+           read_image(options->sram, BTS_SRAM_SIZE, &in[IN_SRAM]) && read_image(options->store, STORE_MOST, &in[IN_STORE]);
+}
+
+/* The machine, out of what was read. */
+static bool make_machine(const struct options *options, struct job *job) {
+    struct input *in = job->inputs;
+    struct bytes *store = &in[IN_STORE].bytes;
+    if (options->store == NULL && !make_store(options->bench, options->sram != NULL ? &in[IN_SRAM].bytes : NULL, store)) {
         return false;
     }
-    if (options->sram != NULL) {
-        lent->lengths[SRAM] = sram.len;
+    job->machine.board = in[IN_BOARD].bytes;
+    job->machine.bios = in[IN_BIOS].bytes;
+    job->machine.rom = in[IN_ROM].bytes;
+    if (!store_lengths(options->store, store, job->machine.lengths)) {
+        return false;
     }
-    for (size_t i = 0; i < MEMORIES; i++) {
-        lent->store.len += lent->lengths[i];
+    job->machine.store = (struct bytes){store->at + STORE_HEADER, store->len - STORE_HEADER};
+    return true;
+}
+
+/* ---- the run */
+
+/* The sheet: as it was read, or made of the listing. */
+static struct bytes sheet_of(const struct options *options, const struct job *job) {
+    return options->sheet != NULL ? job->inputs[IN_STEPS].bytes : job->sheet;
+}
+
+static bts_report run(const struct options *options, struct job *job) {
+    struct bytes sheet = sheet_of(options, job);
+    size_t room = answers_len(sheet.len);
+    if (options->sheet != NULL) {
+        return run_sheet(sheet.at, sheet.len, &job->machine, job->answers, room);
     }
-    lent->store.at = calloc(lent->store.len, 1);
-    if (lent->store.at == NULL) {
+    return run_records(sheet.at + BTS_HEADER_SIZE, room / BTS_ANSWER_SIZE, &job->machine, job->answers);
+}
+
+static bool make_answers(const struct options *options, struct job *job) {
+    size_t room = answers_len(sheet_of(options, job).len);
+    job->answers = malloc(room > 0 ? room : 1);
+    if (job->answers == NULL) {
         complain("out of memory");
-    } else if (sram.len > 0) {
-        memcpy(lent->store.at + lent->store.len - sram.len, sram.at, sram.len);
     }
-    free(sram.at);
-    return lent->store.at != NULL;
+    return job->answers != NULL;
 }
 
-static bool read_inputs(const struct options *options, struct lent *lent) {
-    bool steps = options->sheet != NULL ? read_sheet(options->sheet, &lent->sheet) : read_listing(options->listing, &lent->sheet);
-    return steps && read_board(options->board, &lent->board) && read_image(options->bios, BTS_BIOS_SIZE, &lent->bios) &&
-           read_image(options->rom, BTS_ROM_SIZE, &lent->rom) && make_store(options, lent);
-}
-
-static bts_report run(struct lent *lent) {
-    const size_t *n = lent->lengths;
-    return bts_run(lent->sheet.bytes, lent->sheet.len, lent->board.at, lent->board.len, lent->store.at, lent->store.len,
-                   bts_bytes(lent->bios.at), lent->bios.len, bts_bytes(lent->rom.at), lent->rom.len, lent->answers,
-                   sizeof lent->answers, n[EWRAM], n[IWRAM], n[IO], n[PALETTE], n[VRAM], n[OAM], n[SRAM]);
-}
-
-/* Which image a refusal of the lengths is about. */
-static void tell_long_images(const struct options *options, const struct lent *lent) {
-    const struct { const char *path; size_t len, size; } images[] = {
-        {options->rom, lent->rom.len, BTS_ROM_SIZE},
-        {options->bios, lent->bios.len, BTS_BIOS_SIZE},
-        {options->sram, lent->lengths[SRAM], BTS_SRAM_SIZE}};
-    for (size_t i = 0; i < 3; i++) {
-        if (images[i].len > images[i].size) {
-            complain("%s is longer than %zu bytes", images[i].path, images[i].size);
-        }
+static void tell_too_long(const char *file, const char *memory, size_t len, size_t size) {
+    if (len > size) {
+        complain("%s%s is longer than %zu bytes", file, memory, size);
     }
 }
 
-static bool write_files(const struct options *options, const struct lent *lent) {
-    size_t sram = lent->lengths[SRAM];
+/* Which image, or which memory of a store, a refusal of the lengths is about. */
+static void tell_lengths(const struct options *options, const struct job *job) {
+    tell_too_long(options->rom, "", job->machine.rom.len, BTS_ROM_SIZE);
+    tell_too_long(options->bios, "", job->machine.bios.len, BTS_BIOS_SIZE);
+    for (size_t i = 0; i < MEMORIES; i++) {
+        char memory[32];
+        snprintf(memory, sizeof memory, ": %s", memory_at(i)->name);
+        tell_too_long(options->store != NULL ? options->store : options->sram, options->store != NULL ? memory : "",
+                      job->machine.lengths[i], memory_at(i)->physical);
+    }
+}
+
+/* ---- out */
+
+static bool write_files(const struct options *options, const struct job *job) {
+    const struct input *in = job->inputs;
+    const struct bytes *store = &in[IN_STORE].bytes;
+    size_t sram = job->machine.lengths[SRAM];
     struct output outputs[] = {
-        {options->sheet_out, lent->sheet.bytes, lent->sheet.len, NULL},
-        {options->board_out, lent->board.at, lent->board.len, NULL},
-        {options->sram_out, lent->store.at + (lent->store.len - sram), sram, NULL},
+        {options->sheet_out, sheet_of(options, job), NULL, NULL},
+        {options->board_out, in[IN_BOARD].bytes, &in[IN_BOARD], NULL},
+        {options->sram_out, {store->at + (store->len - sram), sram}, &in[IN_SRAM], NULL},
+        {options->store_out, *store, &in[IN_STORE], NULL},
     };
-    return write_outputs(outputs, sizeof outputs / sizeof outputs[0]);
+    return write_outputs(in, INPUTS, outputs, sizeof outputs / sizeof outputs[0]);
 }
 
 /* The files are in place by now. A pipe that is closed too early may end the program here, and leaves nothing half done. */
@@ -137,42 +159,56 @@ static int end_output(const char *written) {
     return FAILED;
 }
 
-static int price(const struct options *options, struct lent *lent) {
-    if (!read_inputs(options, lent)) {
-        return FAILED;
-    }
-    bts_report report = run(lent);
-    if (report.number != BTS_OK) {
-        tell_refusal(&lent->sheet, report);
-        tell_long_images(options, lent);
-        return REFUSED;
-    }
-    if (!write_files(options, lent)) {
-        return FAILED;
-    }
-    if (options->table) {
-        print_table(&lent->sheet, lent->answers, report);
+static int print(const struct options *options, const struct account *account) {
+    const struct options *o = options;
+    if (o->table) {
+        print_table(account);
     } else {
-        print_lines(lent->answers, report);
+        print_lines(account);
     }
-    bool files = options->sheet_out != NULL || options->board_out != NULL || options->sram_out != NULL;
+    bool files = o->sheet_out != NULL || o->board_out != NULL || o->sram_out != NULL || o->store_out != NULL;
     return end_output(files ? " (the files that were asked for are written)" : "");
 }
 
+static int price(const struct options *options, struct job *job) {
+    struct account account = {.machine = &job->machine};
+    if (!read_inputs(options, job) || !make_machine(options, job) || !make_answers(options, job)) {
+        return FAILED;
+    }
+    size_t board = job->machine.board.len;
+    memcpy(account.board, job->machine.board.at, board < BTS_BOARD_SIZE ? board : BTS_BOARD_SIZE);
+    bts_report report = run(options, job);
+    const uint8_t *records = sheet_of(options, job).at + BTS_HEADER_SIZE;
+    if (report.number != BTS_OK) {
+        tell_refusal(records, report);
+        tell_lengths(options, job);
+        return REFUSED;
+    }
+    if (!write_files(options, job)) {
+        return FAILED;
+    }
+    account.records = records;
+    account.answers = job->answers;
+    account.count = report.index;
+    account.total = report.total;
+    return print(options, &account);
+}
+
 int main(int argc, char **argv) {
-    static struct lent lent; /* too large for some stacks */
+    struct job job = {0};
     struct options options;
     if (!read_options(argc, argv, &options)) {
         return FAILED;
     }
-    if (options.help) {
-        print_help();
+    if (options.help || options.version) {
+        (options.help ? print_help : print_version)();
         return end_output("");
     }
-    int status = price(&options, &lent);
-    free(lent.board.at);
-    free(lent.bios.at);
-    free(lent.rom.at);
-    free(lent.store.at);
+    int status = price(&options, &job);
+    for (size_t i = 0; i < INPUTS; i++) {
+        free(job.inputs[i].bytes.at);
+    }
+    free(job.sheet.at);
+    free(job.answers);
     return status;
 }

@@ -1,103 +1,125 @@
-/* The command line: its options, and the help text. */
+/* The command line: its options, and the texts about them. */
 #include "options.h"
 
+#include <stddef.h>
 #include <stdio.h>
 #include <string.h>
 
+#include "bts.h"
 #include "kinds.h"
 #include "say.h"
+#include "store.h"
+#include "version.h"
 
-/* The field that an option sets: the name of a file, or a flag. */
-struct place {
-    const char *option;
-    const char **file;
-    bool *flag;
-    bool may_be_stdin; /* `-` in the place of the file is standard input */
+/* What an option sets: a flag, the name of a file, or that of a file for which `-` is standard input. */
+enum sets { FLAG, A_FILE, A_FILE_OR_STDIN };
+
+/* The options, in the order in which the help text tells them. */
+static const struct option {
+    const char *name;
+    const char *also; /* another name, or NULL */
+    enum sets sets;
+    size_t field; /* its place in struct options */
+    const char *says;
+} option_list[] = {
+    {"--rom", NULL, A_FILE, offsetof(struct options, rom), "the cartridge's image; without it, none"},
+    {"--bios", NULL, A_FILE, offsetof(struct options, bios), "the BIOS image; without it, none"},
+    {"--sram", NULL, A_FILE, offsetof(struct options, sram), "the backup memory, as long as the file; without it, zeros"},
+    {"--store", NULL, A_FILE, offsetof(struct options, store), "all memories as --store-out wrote them; without it, zeros"},
+    {"--board", NULL, A_FILE, offsetof(struct options, board), "a saved board to start from; without it, a fresh one"},
+    {"--bench", NULL, FLAG, offsetof(struct options, bench), "memories of the sizes of document 01's program"},
+    {"--full", NULL, FLAG, offsetof(struct options, full), "memories of the physical sizes, as they are without it"},
+    {"--sheet", NULL, A_FILE_OR_STDIN, offsetof(struct options, sheet),
+     "a sheet in bytes (- is standard input) instead of a listing"},
+    {"-v", NULL, FLAG, offsetof(struct options, table), "a table for a person, instead of a line for each step and the total"},
+    {"-o", NULL, A_FILE, offsetof(struct options, sheet_out), "writes the sheet that was run, of at most 4096 steps"},
+    {"--board-out", NULL, A_FILE, offsetof(struct options, board_out), "writes the board after the run"},
+    {"--sram-out", NULL, A_FILE, offsetof(struct options, sram_out), "writes the backup memory after the run"},
+    {"--store-out", NULL, A_FILE, offsetof(struct options, store_out), "writes all memories after the run"},
+    {"-h", "--help", FLAG, offsetof(struct options, help), "this text"},
+    {"--version", NULL, FLAG, offsetof(struct options, version), "the library's version, the toolchain and the Rust behind it"},
 };
 
-enum { OPTION_COUNT = 11 };
-
-static void list_places(struct options *o, struct place places[OPTION_COUNT]) {
-    const struct place list[OPTION_COUNT] = {
-        {"--sheet", &o->sheet, NULL, true},
-        {"--rom", &o->rom, NULL, false},
-        {"--bios", &o->bios, NULL, false},
-        {"--sram", &o->sram, NULL, false},
-        {"--board", &o->board, NULL, false},
-        {"-o", &o->sheet_out, NULL, false},
-        {"--board-out", &o->board_out, NULL, false},
-        {"--sram-out", &o->sram_out, NULL, false},
-        {"--full", NULL, &o->full, false},
-        {"-v", NULL, &o->table, false},
-        {"-h", NULL, &o->help, false},
-    };
-    memcpy(places, list, sizeof list);
-}
+enum { OPTION_COUNT = sizeof option_list / sizeof option_list[0] };
 
 static bool wrong(const char *what, const char *option) {
     complain("%s %s; btsrun -h tells the options", option, what);
     return false;
 }
 
-static const struct place *find(const struct place *places, const char *option) {
+static bool is_named(const char *name, const char *text, size_t len) {
+    return name != NULL && strlen(name) == len && memcmp(name, text, len) == 0;
+}
+
+static const struct option *find(const char *text, size_t len) {
     for (size_t i = 0; i < OPTION_COUNT; i++) {
-        if (strcmp(places[i].option, option) == 0) {
-            return &places[i];
+        if (is_named(option_list[i].name, text, len) || is_named(option_list[i].also, text, len)) {
+            return &option_list[i];
         }
     }
     return NULL;
 }
 
-/* Takes the option at argv[i] and gives back how many arguments it was; 0 if it is wrong. Behind the last argument is a NULL. */
-static int take_option(char **argv, int i, const struct place *places) {
-    const struct place *place = find(places, argv[i]);
-    if (place == NULL) {
-        return wrong("is no option", argv[i]);
-    }
-    if (place->flag != NULL) {
-        *place->flag = true;
-        return 1;
-    }
-    const char *file = argv[i + 1];
-    if (*place->file != NULL) {
-        return wrong("stands twice", argv[i]);
+static bool set_file(const struct option *option, const char *file, struct options *options) {
+    const char **field = (const char **)(void *)((char *)options + option->field);
+    if (*field != NULL) {
+        return wrong("stands twice", option->name);
     }
     if (file == NULL || file[0] == '\0') {
-        return wrong("names no file", argv[i]);
+        return wrong("names no file", option->name);
     }
-    if (strcmp(file, "-") == 0 && !place->may_be_stdin) {
-        return wrong("takes a file's name, not -", argv[i]);
+    if (strcmp(file, "-") == 0 && option->sets != A_FILE_OR_STDIN) {
+        return wrong("takes a file's name, not -", option->name);
     }
-    *place->file = file;
-    return 2;
+    *field = file;
+    return true;
 }
 
-/* An output may take the place of its own input (a board, an SRAM), but of no other file that is read: that would be lost. */
-static bool spares_inputs(const struct options *o, const char *output, const char *own) {
-    const char *inputs[] = {o->listing, o->sheet, o->rom, o->bios, o->sram, o->board};
-    for (size_t i = 0; i < sizeof inputs / sizeof inputs[0]; i++) {
-        bool same = output != NULL && inputs[i] != NULL && strcmp(output, inputs[i]) == 0;
-        if (same && inputs[i] != own) {
-            return wrong("would be written over, though it is read as something else", output);
-        }
+/* Takes the option at argv[i] and gives back how many arguments it was; 0 if it is wrong. Behind the last argument is a NULL. The
+ * value of a long option may stand behind `=` in the same argument. */
+static int take_option(char **argv, int i, struct options *options) {
+    const char *equals = argv[i][1] == '-' ? strchr(argv[i], '=') : NULL;
+    const struct option *option = find(argv[i], equals != NULL ? (size_t)(equals - argv[i]) : strlen(argv[i]));
+    if (option == NULL) {
+        return wrong("is no option", argv[i]);
     }
-    return true;
+    if (option->sets != FLAG) {
+        int taken = equals != NULL ? 1 : 2;
+        return set_file(option, equals != NULL ? equals + 1 : argv[i + 1], options) ? taken : 0;
+    }
+    if (equals != NULL) {
+        return wrong("takes no value", option->name);
+    }
+    *(bool *)((char *)options + option->field) = true;
+    return 1;
+}
+
+/* Options that say the same thing in two ways. */
+static bool agree(const struct options *o, const char *operand) {
+    if (operand != NULL && o->sheet != NULL) {
+        return wrong("is a listing beside --sheet, and only one of them can be run", operand);
+    }
+    if (o->store != NULL && o->sram != NULL) {
+        return wrong("can't stand beside --sram: a store has an SRAM of its own", "--store");
+    }
+    if (o->store != NULL && (o->bench || o->full)) {
+        return wrong("can't stand beside --bench or --full: a store has its own lengths", "--store");
+    }
+    return !(o->bench && o->full) || wrong("can't stand beside --full: they name different sizes", "--bench");
 }
 
 /* `-` is standard input, for a listing and for a sheet. */
 bool read_options(int argc, char **argv, struct options *options) {
-    struct place places[OPTION_COUNT];
     const char *operand = NULL;
     bool only_operands = false;
     *options = (struct options){0};
-    list_places(options, places);
     for (int i = 1; i < argc;) {
         bool is_option = !only_operands && argv[i][0] == '-' && argv[i][1] != '\0';
         int taken = 1;
         if (is_option && strcmp(argv[i], "--") == 0) {
             only_operands = true;
         } else if (is_option) {
-            taken = take_option(argv, i, places);
+            taken = take_option(argv, i, options);
         } else if (operand != NULL) {
             taken = wrong("is a second listing", argv[i]);
         } else {
@@ -108,36 +130,59 @@ bool read_options(int argc, char **argv, struct options *options) {
         }
         i += taken;
     }
-    if (operand != NULL && options->sheet != NULL) {
-        return wrong("is a listing beside --sheet, and only one of them can be run", operand);
-    }
     options->listing = operand != NULL && strcmp(operand, "-") != 0 ? operand : NULL;
-    return spares_inputs(options, options->sheet_out, NULL) && spares_inputs(options, options->board_out, options->board) &&
-           spares_inputs(options, options->sram_out, options->sram);
+    return agree(options, operand);
 }
 
-void print_help(void) {
-    fputs("btsrun [OPTION].. [LISTING]     prices the steps of a listing (standard input if none is named, or -)\n"
-          "\n"
-          "  --rom FILE        the cartridge's image; without it, none\n"
-          "  --bios FILE       the BIOS image; without it, none\n"
-          "  --sram FILE       the backup memory, as long as the file; without it, 8192 zeros\n"
-          "  --board FILE      a saved board to start from; without it, a fresh one\n"
-          "  --full            the other memories at their physical sizes, and SRAM too if no file gives it\n"
-          "  --sheet FILE      a sheet in bytes (- is standard input) instead of a listing\n"
-          "  -v                a table for a person, instead of a line for each step and the total\n"
-          "  -o FILE           writes the sheet that was run\n"
-          "  --board-out FILE  writes the board after the run\n"
-          "  --sram-out FILE   writes the backup memory after the run\n"
-          "  -h                this text\n"
-          "\n"
-          "Each line of a listing is a step, or blank; # and ; begin a comment. Numbers are decimal, or hexadecimal behind 0x.\n"
-          "\n",
+/* ---- texts */
+
+static void print_options(void) {
+    for (size_t i = 0; i < OPTION_COUNT; i++) {
+        const struct option *o = &option_list[i];
+        char text[40];
+        snprintf(text, sizeof text, "%s%s%s%s", o->name, o->also != NULL ? ", " : "", o->also != NULL ? o->also : "",
+                 o->sets != FLAG ? " FILE" : "");
+        printf("  %-18s%s\n", text, o->says);
+    }
+}
+
+static void print_sizes(void) {
+    fputs("\nThe memories in bytes, without --bench and with it:\n", stdout);
+    for (size_t i = 0; i < MEMORIES; i++) {
+        const struct memory *memory = memory_at(i);
+        printf("  %-8s%8zu%8zu\n", memory->name, memory->physical, memory->bench);
+    }
+}
+
+static void print_steps(void) {
+    fputs("\nEach line of a listing is a step, or blank; # and ; begin a comment. Numbers are decimal, or hexadecimal behind 0x.\n\n",
           stdout);
     for (size_t i = 0; form_at(i) != NULL; i++) {
         printf("  %-8s%-20s  %s\n", form_at(i)->name, form_at(i)->operands, form_at(i)->says);
     }
-    fputs("\nA line gives index, cycles, value, hits, prefetch count, force flag. Nothing is written on an error.\n"
-          "Exit status: 0 done; 1 refused by the run; 2 a bad line, option or file.\n",
+}
+
+void print_help(void) {
+    fputs("btsrun [OPTION].. [LISTING]     prices the steps of a listing (standard input if none is named, or -)\n\n", stdout);
+    print_options();
+    fputs("\nA file's name may also stand behind =, as in --rom=FILE.\n", stdout);
+    print_sizes();
+    print_steps();
+    fputs("\nFor each step a line gives these six, and behind them is the total of the cycles:\n\n"
+          "  index   the step's number, from 0\n"
+          "  cycles  what the step costs\n"
+          "  value   READ: the data; FETCH: the halfword, 0 on a miss; THUMB, ARM: its cycles with the cartridge bus free; else 0\n"
+          "  hits    halfwords that FETCH, THUMB or ARM took from the prefetch; else 0\n"
+          "  count   halfwords that stand in the prefetch after the step\n"
+          "  force   1: the next opcode fetch is nonsequential\n"
+          "\n"
+          "The table of -v has the step too, and the sum of the cycles up to it.\n"
+          "Nothing is written on an error. Exit status: 0 done; 1 refused by the run; 2 a bad line, option or file.\n",
           stdout);
+}
+
+void print_version(void) {
+    printf("btsrun, with libbts %s (sheets of version %d)\n", BTS_LIBRARY_VERSION, BTS_VERSION);
+    printf("toolchain: %s\n", HOST_TOOLCHAIN);
+    printf("ported from: %s\n", HOST_RUST);
 }

@@ -12,18 +12,23 @@ struct options {
     const char *bios;
     const char *sram;
     const char *board;
+    const char *store;
     const char *sheet_out;
     const char *board_out;
     const char *sram_out;
-    bool full;  /* every memory at its physical size */
-    bool table; /* the table for a person, instead of bench's lines */
+    const char *store_out;
+    bool bench;   /* every memory as long as in document 01's program */
+    bool full;    /* every memory at its physical size, which is so anyway */
+    bool table;   /* the table for a person, instead of bench's lines */
     bool help;
+    bool version;
 };
 
 /* What is wrong is told on standard error. */
 bool read_options(int argc, char **argv, struct options *options);
 
-/* The help text, on standard output. */
+/* The help text, and what the program was made of, on standard output. */
 void print_help(void);
+void print_version(void);
 
 #endif

@@ -2,16 +2,15 @@
 #ifndef HOST_SHOW_H
 #define HOST_SHOW_H
 
-#include "bts.h"
-#include "listing.h"
+#include "runs.h"
 
 /* A line for each record and the total, exactly as `bench` writes them. */
-void print_lines(const uint8_t *answers, bts_report report);
+void print_lines(const struct account *account);
 
 /* A table that a person reads, with the steps and the running sum, and the total. */
-void print_table(const struct sheet *sheet, const uint8_t *answers, bts_report report);
+void print_table(const struct account *account);
 
 /* A refusal's number, name, record and meaning, on standard error; of a faulty record also its bytes. */
-void tell_refusal(const struct sheet *sheet, bts_report report);
+void tell_refusal(const uint8_t *records, bts_report report);
 
 #endif

@@ -1,0 +1,36 @@
+/* The run of any number of steps: a sheet holds at most 4,096, so a longer listing is run in pieces, one behind the other on the
+ * same board and store. What they give is what one run would. */
+#ifndef HOST_RUNS_H
+#define HOST_RUNS_H
+
+#include "bts.h"
+#include "files.h"
+#include "store.h"
+
+/* What the steps are run on. The store is that of bts_run: the bytes of the memories alone. */
+struct machine {
+    struct bytes board, store, bios, rom;
+    size_t lengths[MEMORIES];
+};
+
+/* A run that was accepted: a record and an answer for each step, whatever number of pieces it was run in. */
+struct account {
+    const uint8_t *records; /* BTS_RECORD_SIZE bytes each */
+    const uint8_t *answers; /* BTS_ANSWER_SIZE bytes each */
+    size_t count;
+    uint64_t total;
+    uint8_t board[BTS_BOARD_SIZE]; /* as it was before the first step */
+    const struct machine *machine; /* as the last step left it */
+};
+
+/* The length of the answers to a sheet of `len` bytes, if it is one that is accepted. */
+size_t answers_len(size_t len);
+
+/* Runs a sheet as it is. */
+bts_report run_sheet(const uint8_t *sheet, size_t len, struct machine *machine, uint8_t *answers, size_t room);
+
+/* Runs `count` records in pieces; answers has room for all of them. The report is as if a sheet had no limit: the index runs on
+ * through the pieces, and the total is that of all. Behind a refusal, board and store are those of the pieces before it. */
+bts_report run_records(const uint8_t *records, size_t count, struct machine *machine, uint8_t *answers);
+
+#endif
