@@ -43,9 +43,7 @@ HOST_FORMAT(2, 3)
 static bool fault(struct reader *reader, const char *format, ...) {
     va_list arguments;
     va_start(arguments, format);
-    fprintf(stderr, "%s:%lu: ", reader->file, reader->line);
-    vfprintf(stderr, format, arguments);
-    fputc('\n', stderr);
+    complain_at(reader->file, reader->line, format, arguments);
     va_end(arguments);
     reader->faults++;
     return false;
@@ -277,6 +275,7 @@ static bool read_lines(struct reader *reader, const char *at, size_t len, struct
 }
 
 bool assemble(const char *file, const uint8_t *text, size_t len, struct bytes *sheet) {
+    static const char utf8_mark[3] = "\xEF\xBB\xBF"; /* some editors put it in front of a text */
     struct reader reader = {.file = file};
     if (len > LISTING_MOST) {
         complain("%s is longer than %d bytes, which no listing is", file, LISTING_MOST);
@@ -288,7 +287,8 @@ bool assemble(const char *file, const uint8_t *text, size_t len, struct bytes *s
         return false;
     }
     sheet->len = BTS_HEADER_SIZE;
-    bool good = read_lines(&reader, (const char *)text, len, sheet);
+    size_t start = len >= sizeof utf8_mark && memcmp(text, utf8_mark, sizeof utf8_mark) == 0 ? sizeof utf8_mark : 0;
+    bool good = read_lines(&reader, (const char *)text + start, len - start, sheet);
     if (sheet->len <= BTS_MOST_SHEET) {
         bts_put_header(sheet->at, (uint32_t)((sheet->len - BTS_HEADER_SIZE) / BTS_RECORD_SIZE));
     }

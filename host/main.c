@@ -7,6 +7,7 @@
 #include <stdlib.h>
 #include <string.h>
 
+#include "board.h"
 #include "bts.h"
 #include "files.h"
 #include "listing.h"
@@ -135,6 +136,17 @@ static void tell_lengths(const struct options *options, const struct job *job) {
     }
 }
 
+/* What a refusal leaves open: which file it is about, and what is wrong with it. */
+static void tell_cause(const struct options *options, const struct job *job, uint32_t number) {
+    if (number == BTS_BAD_LENGTHS) {
+        tell_lengths(options, job);
+    }
+    const char *fault = number == BTS_UNSOUND_BOARD ? board_fault(job->machine.board.at, job->machine.board.len) : NULL;
+    if (fault != NULL) {
+        complain("%s: %s", options->board, fault);
+    }
+}
+
 /* ---- out */
 
 static bool write_files(const struct options *options, const struct job *job) {
@@ -181,7 +193,7 @@ static int price(const struct options *options, struct job *job) {
     const uint8_t *records = sheet_of(options, job).at + BTS_HEADER_SIZE;
     if (report.number != BTS_OK) {
         tell_refusal(records, report);
-        tell_lengths(options, job);
+        tell_cause(options, job, report.number);
         return REFUSED;
     }
     if (!write_files(options, job)) {

@@ -33,26 +33,9 @@ void print_table(const struct account *account) {
     print_total(account);
 }
 
-/* The refusals by number. */
-static const struct {
-    const char *name;
-    const char *says;
-} refusals[] = {
-    [BTS_OK] = {"BTS_OK", "accepted"},
-    [BTS_BAD_MARK] = {"BTS_BAD_MARK", "the sheet is under 8 bytes or doesn't begin with BTS"},
-    [BTS_BAD_VERSION] = {"BTS_BAD_VERSION", "the sheet's version is not 1"},
-    [BTS_BAD_SHAPE] = {"BTS_BAD_SHAPE",
-                       "the sheet's byte 5 is not 0, it has over 4096 records, or its length is not 8 + 12 a record"},
-    [BTS_BAD_LENGTHS] = {"BTS_BAD_LENGTHS", "a memory is longer than its physical size"},
-    [BTS_UNSOUND_BOARD] = {"BTS_UNSOUND_BOARD", "the board is not 72 bytes or not sound"},
-    [BTS_SHORT_ANSWERS] = {"BTS_SHORT_ANSWERS", "the answers are shorter than 12 bytes a record"},
-    [BTS_FAULTY_RECORD] = {"BTS_FAULTY_RECORD", "the record breaks the layout or the table of kinds"},
-};
-
 void tell_refusal(const uint8_t *records, bts_report report) {
-    bool known = report.number < sizeof refusals / sizeof refusals[0];
-    complain("refused %lu (%s) at record %lu: %s", (unsigned long)report.number, known ? refusals[report.number].name : "unknown",
-             (unsigned long)report.index, known ? refusals[report.number].says : "this program doesn't know the number");
+    complain("refused %lu (%s) at record %lu: %s", (unsigned long)report.number, bts_refusal_name(report.number),
+             (unsigned long)report.index, bts_refusal_text(report.number));
     if (report.number != BTS_FAULTY_RECORD) {
         return;
     }
