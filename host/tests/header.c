@@ -1,7 +1,12 @@
-/* include/bts.h by itself, as C and as C++: the README's small sheet made with the header's helpers, over no BIOS and no ROM. */
+/* include/bts.h by itself, as C and as C++: the README's small sheet made with the header's helpers, over no BIOS and no ROM; the
+ * names of the refusals; the readers of a board. The exit status is the number of the first thing that is wrong. */
 #include "bts.h"
 
 #include <string.h>
+
+#define TEXT_OF(number) #number
+#define TEXT(number) TEXT_OF(number)
+#define NAMED(refusal) (strcmp(bts_refusal_name(refusal), #refusal) == 0 && bts_refusal_text(refusal)[0] != 0)
 
 /* The sheet by hand: WAITCNT 0x4000, then READ 2 at 0x02000000. */
 static const uint8_t by_hand[] = {
@@ -10,23 +15,28 @@ static const uint8_t by_hand[] = {
     1, 2, 0, 0, 0, 0, 0, 2, 0, 0, 0, 0,
 };
 
-int main(void) {
-    static uint8_t board[BTS_BOARD_SIZE], store[256], answers[2 * BTS_ANSWER_SIZE + 1];
-    uint8_t sheet[BTS_HEADER_SIZE + 2 * BTS_RECORD_SIZE];
+static void make_sheet(uint8_t *sheet) {
     bts_put_header(sheet, 2);
     bts_put_record(sheet, 0, BTS_WAITCNT, 0, 0, 0, 0x4000);
     bts_put_record(sheet, 1, BTS_READ, 2, 0, 0x02000000, 0);
-    if (sizeof sheet != sizeof by_hand || memcmp(sheet, by_hand, sizeof sheet) != 0) {
+}
+
+/* Over no memory and without room for answers: refused, and nothing is touched. */
+static int refused_run(void) {
+    uint8_t sheet[sizeof by_hand], board[BTS_BOARD_SIZE] = {0};
+    make_sheet(sheet);
+    if (memcmp(sheet, by_hand, sizeof sheet) != 0) {
         return 1;
     }
-    store[0] = 0x34;
-    store[1] = 0x12;
-    answers[2 * BTS_ANSWER_SIZE] = 0xEE;
     bts_report none = bts_run(sheet, sizeof sheet, board, sizeof board, bts_room(NULL), 0, bts_bytes(NULL), 0, bts_bytes(NULL), 0,
                               bts_room(NULL), 0, 0, 0, 0, 0, 0, 0, 0);
-    if (none.number != BTS_SHORT_ANSWERS || none.index != 0 || none.total != 0 || bts_get32(board) != 0) {
-        return 2;
-    }
+    return none.number == BTS_SHORT_ANSWERS && none.index == 0 && none.total == 0 && bts_board_waitcnt(board) == 0 ? 0 : 2;
+}
+
+static int accepted_run(void) {
+    uint8_t sheet[sizeof by_hand], board[BTS_BOARD_SIZE] = {0}, store[256] = {0x34, 0x12}, answers[2 * BTS_ANSWER_SIZE + 1] = {0};
+    make_sheet(sheet);
+    answers[2 * BTS_ANSWER_SIZE] = 0xEE;
     bts_report report = bts_run(sheet, sizeof sheet, board, sizeof board, store, sizeof store, bts_bytes(NULL), 0,
                                 bts_bytes(NULL), 0, answers, sizeof answers, 256, 0, 0, 0, 0, 0, 0);
     bts_answer answer = bts_answer_at(answers, 1);
@@ -36,5 +46,45 @@ int main(void) {
     if (answer.value != 0x1234 || answer.cycles != 3 || answer.hits != 0 || answer.count != 0 || answer.force != 0) {
         return 4;
     }
-    return answers[2 * BTS_ANSWER_SIZE] == 0xEE && bts_get32(board + BTS_BOARD_WAITCNT) == 0x4000 ? 0 : 5;
+    return answers[2 * BTS_ANSWER_SIZE] == 0xEE && bts_board_waitcnt(board) == 0x4000 ? 0 : 5;
+}
+
+static int names(void) {
+    if (strcmp(BTS_LIBRARY_VERSION, TEXT(BTS_LIBRARY_MAJOR) "." TEXT(BTS_LIBRARY_MINOR)) != 0) {
+        return 6;
+    }
+    if (!NAMED(BTS_OK) || !NAMED(BTS_BAD_MARK) || !NAMED(BTS_BAD_VERSION) || !NAMED(BTS_BAD_SHAPE) || !NAMED(BTS_BAD_LENGTHS) ||
+        !NAMED(BTS_UNSOUND_BOARD) || !NAMED(BTS_SHORT_ANSWERS) || !NAMED(BTS_FAULTY_RECORD)) {
+        return 7;
+    }
+    return strcmp(bts_refusal_name(8), "unknown") == 0 && bts_refusal_text(0xFFFFFFFF) == bts_refusal_text(8) ? 0 : 8;
+}
+
+/* Byte i of the board is i + 0x80, so that each field has its own value and no sign gets in. */
+static int readers(void) {
+    uint8_t b[BTS_BOARD_SIZE];
+    for (size_t i = 0; i < sizeof b; i++) {
+        b[i] = BTS_CAST(uint8_t, i + 0x80);
+    }
+    if (bts_board_waitcnt(b) != 0x8180 || bts_board_force(b) != 0x82 || bts_board_head(b) != 0x83 || bts_board_count(b) != 0x84 ||
+        bts_board_filling(b) != 0x85 || bts_board_first_beat(b) != 0x86) {
+        return 9;
+    }
+    if (bts_board_wait_left(b) != 0x8B8A8988 || bts_board_next_address(b) != 0x8F8E8D8C ||
+        bts_board_head_address(b) != 0x93929190 || bts_board_halfword(b, 0) != 0x9594 || bts_board_halfword(b, 7) != 0xA3A2) {
+        return 10;
+    }
+    return bts_board_pc(b) == 0xA7A6A5A4 && bts_board_latch(b) == 0xABAAA9A8 && bts_board_vram_stores(b) == 0xB3B2B1B0AFAEADAC &&
+                   bts_board_oam_stores(b) == 0xBBBAB9B8B7B6B5B4 && bts_board_palette_stores(b) == 0xC3C2C1C0BFBEBDBC
+               ? 0
+               : 11;
+}
+
+int main(void) {
+    int results[] = {refused_run(), accepted_run(), names(), readers()};
+    int first = 0;
+    for (size_t i = 0; i < sizeof results / sizeof results[0]; i++) {
+        first = first != 0 ? first : results[i];
+    }
+    return first;
 }
