@@ -39,9 +39,9 @@ stale_checks() {
         touch -t 202101010000 "$scratch/target/staticlib/libbts.a"
         makes_anew "$*, $newer is newer" "$@"
         check "$*, $newer is named" says "target/staticlib/libbts.a is older than $newer"
+        takes "$*, once it is made" "$@"
         touch -t 202001010000 "$scratch/$newer"
     done
-    takes "$*, once it is made" "$@"
     touch -t 202101010000 "$scratch/target/staticlib/libbts.a"
     rm "$scratch/crates/bts/src/lib.rt"
     makes_anew "$*, a source is gone" "$@"
