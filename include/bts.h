@@ -40,9 +40,10 @@
 
 #ifdef __cplusplus
 #define BTS_CAST(type, number) static_cast<type>(number)
-extern "C" {
+#define BTS_FUNCTION extern "C"
 #else
 #define BTS_CAST(type, number) ((type)(number))
+#define BTS_FUNCTION extern
 #endif
 
 /* ---- what the run gives back */
@@ -192,6 +193,7 @@ typedef struct {
 /* ---- the run */
 
 #ifndef BTS_NO_LIBRARY
+BTS_FUNCTION
 bts_report bts_run(const uint8_t *sheet, size_t sheet_len,
                    uint8_t *board, size_t board_len,
                    uint8_t *store, size_t store_len,
@@ -284,9 +286,5 @@ static inline uint64_t bts_board_palette_stores(const uint8_t *board) { return b
 static inline uint16_t bts_board_halfword(const uint8_t *board, size_t k) {
     return bts_get16(board + BTS_BOARD_HALFWORDS + 2 * k);
 }
-
-#ifdef __cplusplus
-}
-#endif
 
 #endif
