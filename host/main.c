@@ -14,6 +14,7 @@
 #include "options.h"
 #include "runs.h"
 #include "say.h"
+#include "seen.h"
 #include "show.h"
 #include "store.h"
 
@@ -183,12 +184,11 @@ static int print(const struct options *options, const struct account *account) {
 }
 
 static int price(const struct options *options, struct job *job) {
-    struct account account = {.machine = &job->machine};
+    struct trace trace;
     if (!read_inputs(options, job) || !make_machine(options, job) || !make_answers(options, job)) {
         return FAILED;
     }
-    size_t board = job->machine.board.len;
-    memcpy(account.board, job->machine.board.at, board < BTS_BOARD_SIZE ? board : BTS_BOARD_SIZE);
+    trace_begin(&trace, &job->machine);
     bts_report report = run(options, job);
     const uint8_t *records = sheet_of(options, job).at + BTS_HEADER_SIZE;
     if (report.number != BTS_OK) {
@@ -199,10 +199,7 @@ static int price(const struct options *options, struct job *job) {
     if (!write_files(options, job)) {
         return FAILED;
     }
-    account.records = records;
-    account.answers = job->answers;
-    account.count = report.index;
-    account.total = report.total;
+    struct account account = {records, job->answers, report.index, report.total, &trace};
     return print(options, &account);
 }
 

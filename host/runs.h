@@ -13,14 +13,15 @@ struct machine {
     size_t lengths[MEMORIES];
 };
 
+struct trace;
+
 /* A run that was accepted: a record and an answer for each step, whatever number of pieces it was run in. */
 struct account {
     const uint8_t *records; /* BTS_RECORD_SIZE bytes each */
     const uint8_t *answers; /* BTS_ANSWER_SIZE bytes each */
     size_t count;
     uint64_t total;
-    uint8_t board[BTS_BOARD_SIZE]; /* as it was before the first step */
-    const struct machine *machine; /* as the last step left it */
+    struct trace *trace; /* what the first step started from */
 };
 
 /* The length of the answers to a sheet of `len` bytes, if it is one that is accepted. */

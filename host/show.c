@@ -4,6 +4,7 @@
 #include <stdio.h>
 
 #include "kinds.h"
+#include "marks.h"
 #include "say.h"
 
 static void print_total(const struct account *account) {
@@ -19,18 +20,30 @@ void print_lines(const struct account *account) {
     print_total(account);
 }
 
+/* The marks stand behind the last column, so that a step without any ends where the sum does. */
+static void print_row(size_t k, const uint8_t *record, bts_answer a, unsigned long long sum) {
+    char text[STEP_TEXT_ROOM];
+    step_text(record, text);
+    printf("%5zu  %-29s %10lu  0x%08lX %4u %5u %5u %14llu", k, text, (unsigned long)a.cycles, (unsigned long)a.value,
+           (unsigned)a.hits, (unsigned)a.count, (unsigned)a.force, sum);
+}
+
 void print_table(const struct account *account) {
     unsigned long long sum = 0;
-    printf("%5s  %-29s %10s  %-10s %4s %5s %5s %14s\n", "index", "step", "cycles", "value", "hits", "count", "force", "sum");
+    struct met met = {{false}};
+    printf("%5s  %-29s %10s  %-10s %4s %5s %5s %14s departs\n", "index", "step", "cycles", "value", "hits", "count", "force", "sum");
     for (size_t k = 0; k < account->count; k++) {
+        const uint8_t *record = account->records + BTS_RECORD_SIZE * k;
         bts_answer a = bts_answer_at(account->answers, k);
-        char text[STEP_TEXT_ROOM];
-        step_text(account->records + BTS_RECORD_SIZE * k, text);
+        struct seen seen;
         sum += a.cycles;
-        printf("%5zu  %-29s %10lu  0x%08lX %4u %5u %5u %14llu\n", k, text, (unsigned long)a.cycles, (unsigned long)a.value,
-               (unsigned)a.hits, (unsigned)a.count, (unsigned)a.force, sum);
+        print_row(k, record, a, sum);
+        trace_step(account->trace, record, a, &seen);
+        print_marks(&seen, &met);
+        putchar('\n');
     }
     print_total(account);
+    print_met(&met, account->total);
 }
 
 void tell_refusal(const uint8_t *records, bts_report report) {

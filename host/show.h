@@ -7,7 +7,8 @@
 /* A line for each record and the total, exactly as `bench` writes them. */
 void print_lines(const struct account *account);
 
-/* A table that a person reads, with the steps and the running sum, and the total. */
+/* A table that a person reads, with the steps, the running sum and the lines of docs/DIFFERENCES.md that touch each step; the
+ * total; and what these lines say. */
 void print_table(const struct account *account);
 
 /* A refusal's number, name, record and meaning, on standard error; of a faulty record also its bytes. */

@@ -1,0 +1,20 @@
+/* The marks: which lines of docs/DIFFERENCES.md touch a step. */
+#ifndef HOST_MARKS_H
+#define HOST_MARKS_H
+
+#include "seen.h"
+
+enum { LINES = 85 }; /* docs/DIFFERENCES.md has D-1 to D-85 */
+
+/* The lines that were met in a run, by their numbers. */
+struct met {
+    bool line[LINES + 1];
+};
+
+/* The lines that touch a step, each behind a blank, on standard output; `met` gets them too. */
+void print_marks(const struct seen *seen, struct met *met);
+
+/* What the lines that were met say, and the figure with their names. */
+void print_met(const struct met *met, uint64_t total);
+
+#endif
