@@ -15,8 +15,6 @@ image_checks() {
     head -c 32766 "$work/sram" >>"$work/expected"
     check "the SRAM afterwards" cmp -s "$files/chip" "$work/expected"
     good "no SRAM named" --sram-out "$files/chip" "$work/backup"
-    check "8,192 bytes" is "$(wc -c <"$files/chip" | tr -d ' ')" 8192
-    good "no SRAM named, at full size" --full --sram-out "$files/chip" "$work/backup"
     check "65,536 bytes" is "$(wc -c <"$files/chip" | tr -d ' ')" 65536
     good "an empty SRAM" --sram /dev/null --sram-out "$files/chip" "$work/backup"
     check "no bytes" empty "$files/chip"
@@ -35,7 +33,7 @@ board_checks() {
     good "in one" --board-out "$files/board-whole" --sram-out "$files/sram-whole" "$work/whole"
     grep -v total "$work/out" | cut -d' ' -f2- >"$work/answers"
     zeros "$files/board" 72
-    zeros "$files/sram" 8192
+    zeros "$files/sram" 65536
     : >"$work/parts"
     for lines in 1,15p '16,$p'; do
         sed -n "$lines" "$work/whole" >"$work/part"

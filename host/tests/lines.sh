@@ -12,8 +12,8 @@ bench_checks() {
     check "from -" cmp -s "$work/out" crates/bench/stdout
     run --sheet - <crates/bench/stdin
     check "a sheet from -" cmp -s "$work/out" crates/bench/stdout
-    run --full -- $here/bench.lst
-    check "the cycles at full size" cmp -s "$work/out" crates/bench/stdout
+    run --bench -- $here/bench.lst
+    check "over document 01's memories" cmp -s "$work/out" crates/bench/stdout
 }
 
 listing_checks() {
@@ -47,7 +47,7 @@ total 27"
 against_bench() {
     [ -x target/bin/bench ] || { leave_out 9 "against bench" "rt check bench builds it"; return; }
     for name in bench loop steps; do
-        good "$name" -o "$files/$name" $here/$name.lst
+        good "$name" --bench -o "$files/$name" $here/$name.lst
         target/bin/bench <"$files/$name" >"$work/bench"
         check "$name as bench has it" cmp -s "$work/out" "$work/bench"
     done
@@ -71,12 +71,12 @@ figure_checks() {
     figure 2 2 'THUMB 0x03000000 0xBA01'
     with='--sram /dev/null'
     figure 14 4294901760 'READ 4 0x0DFFFFFE'
-    with=--full
+    with=
     figure 1 0 'WRITE 1 0x06010000 0x5A' 'READ 2 0x06010000'
     figure 1 23130 'WRITE 2 0x04000000 3' 'WRITE 1 0x06010000 0x5A' 'READ 2 0x06010000'
     figure 1 0 'WRITE 2 0x04000000 3' 'WRITE 1 0x06014000 0x5A' 'READ 2 0x06014000'
     figure 3 7 'WRITE 2 0x0203FFFE 7' 'READ 2 0x0203FFFE'
-    with=
+    with=--bench
     figure 3 0 'WRITE 2 0x0203FFFE 7' 'READ 2 0x0203FFFE'
 }
 

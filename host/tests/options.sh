@@ -2,7 +2,6 @@
 
 option_checks() {
     rm -f "$files"/*
-    printf 'IDLE 1\n' >"$files/listing"
     bad "an unknown option" 2 "--fast is no option" --fast $here/bench.lst
     bad "no file" 2 "-o names no file" $here/bench.lst -o
     bad "an empty name" 2 "--rom names no file" --rom '' $here/bench.lst
@@ -10,17 +9,15 @@ option_checks() {
     bad "two listings" 2 "b is a second listing" a b
     bad "a listing and a sheet" 2 "a is a listing beside --sheet" --sheet crates/bench/stdin a
     bad "- for an output" 2 "-o takes a file's name, not -" -o - $here/bench.lst
-    bad "the listing as an output" 2 "$files/listing would be written over" -o "$files/listing" "$files/listing"
-    bad "the ROM as an output" 2 "$files/listing would be written over" --rom "$files/listing" --sram-out "$files/listing" \
-        $here/bench.lst
-    good "help" -h
-    check "the options" grep -q -e '--board-out FILE' "$work/out"
-    check "the steps" grep -q 'THUMB   ADDRESS OPCODE \[pc\]' "$work/out"
+    bad "a store and an SRAM" 2 "--store can't stand beside --sram" --store a --sram b
+    bad "a store and other sizes" 2 "--store can't stand beside --bench or --full" --bench --store a
+    bad "a store and sizes that are so anyway" 2 "--store can't stand beside --bench or --full" --full --store a
+    bad "two sizes" 2 "--bench can't stand beside --full" --bench --full $here/bench.lst
 }
 
 file_checks() {
     rm -f "$files"/*
-    for option in --rom --bios --sram --board --sheet; do
+    for option in --rom --bios --sram --board --store --sheet; do
         bad "$option absent" 2 "can't open $work/absent" -o "$files/new" $option "$work/absent"  </dev/null
     done
     bad "a listing absent" 2 "can't open $work/absent" -o "$files/new" "$work/absent"
@@ -37,10 +34,7 @@ file_checks() {
     rm "$work/pipe"
     ln -s old "$files/link"
     bad "a link as an output" 2 "can't write $files/link: " -o "$files/link" $here/bench.lst
-    bad "two outputs to one place" 2 "new.btsrun-tmp is there already" -o "$files/new" --board-out "$files/./new" $here/bench.lst
-    printf theirs >"$files/new.btsrun-tmp"
-    bad "another's temporary file" 2 "$files/new.btsrun-tmp is there already" -o "$files/new" $here/bench.lst
-    rm "$files/new.btsrun-tmp" "$files/link"
+    rm "$files/link"
     locked_checks
     good "over an old file" -o "$files/old" $here/bench.lst
     check "it is new" cmp -s "$files/old" crates/bench/stdin

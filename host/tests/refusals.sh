@@ -17,10 +17,12 @@ refusal_checks() {
         zeros "$work/board" $length
         bad "refusal 5 by length $length" 1 "refused 5 (BTS_UNSOUND_BOARD) at record 0" $outputs --board "$work/board" \
             $here/bench.lst
+        check "its rule" says "$work/board: a board is 72 bytes long"
     done
     zeros "$work/board" 71
     printf '\001' >>"$work/board"
     bad "refusal 5 by a byte" 1 "refused 5 (BTS_UNSOUND_BOARD) at record 0" $outputs --board "$work/board" $here/bench.lst
+    check "its rule" says "$work/board: bytes 7 and 68 to 71 must be 0"
     hex_file "$work/sheet" 42 54 53 01 00 00 02 00  04 00 00 00 00 00 00 00 1B 00 00 00  07 03 00 00 00 01 00 08 00 1C 00 00
     bad "refusal 7" 1 "refused 7 (BTS_FAULTY_RECORD) at record 1" $outputs --sheet "$work/sheet"
     check "its bytes" says "the bytes of record 1: 07 03 00 00 00 01 00 08 00 1C 00 00"
@@ -39,9 +41,6 @@ line_checks() {
     cat $here/bad.lst $here/bad-more.lst >"$work/worse"
     bad "more than 20" 2 "$work/worse: 20 bad lines; the rest is left unread" $outputs "$work/worse"
     check "20 are told" is "$(wc -l <"$work/err" | tr -d ' ')" 21
-    awk 'BEGIN { print "# too many"; for (i = 0; i < 5000; i++) print "IDLE 1" }' >"$work/many"
-    bad "5,000 steps" 2 "$work/many:4098: step 4097: a sheet has at most 4096" $outputs "$work/many"
-    check "told once" is "$(wc -l <"$work/err" | tr -d ' ')" 1
     printf 'IDLE 1\nIDLE\0001\n' >"$work/nul"
     bad "a NUL byte" 2 "$work/nul:2: the line has a NUL byte" $outputs "$work/nul"
     printf '# a comment\rIDLE 1\r\n' >"$work/cr"
