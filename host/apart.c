@@ -58,8 +58,8 @@ static bool same_place(const char *a, const char *b) {
 
 /* ---- one output */
 
-/* A rename would put a file where a device, a directory or a link stood; and it asks for no leave from the file itself, so one that
- * is locked against writing is left alone here: by root too, whom the system would let write it. */
+/* A rename would put a file where a device, a directory or a link stood; and it asks for no leave from the file itself, so one
+ * that is locked against writing is left alone here: by root too, whom the system would let write it. */
 static bool may_replace(const char *path, const struct stat *there) {
     if (!S_ISREG(there->st_mode)) {
         complain("can't write %s: it is there and is no regular file", path);

@@ -1,5 +1,5 @@
-/* Files that must not meet: an output takes the place of no file that was read but its own input, no two outputs go to one file, and
- * standard output is neither. What counts is which file a name stands for, since one file can have many names. */
+/* Files that must not meet: an output takes the place of no file that was read but its own input, no two outputs go to one file,
+ * and standard output is neither. What counts is which file a name stands for, since one file can have many names. */
 #ifndef HOST_APART_H
 #define HOST_APART_H
 

@@ -84,8 +84,8 @@ static FILE *open_temporary(const char *path, const char *name) {
     mode_t mode = replaces ? old.st_mode & 0777 : 0666; /* of a new file the user's mask takes its part */
     int file = open(name, O_WRONLY | O_CREAT | O_EXCL | O_CLOEXEC, mode);
     if (file < 0 && errno == EEXIST) {
-        complain("can't write %s: %s is there already: another btsrun is writing %s, or one was stopped; remove it if none is running",
-                 path, name, path);
+        complain("can't write %s: %s is there already: another btsrun is writing %s, or one was stopped; "
+                 "remove it if none is running", path, name, path);
         return NULL;
     }
     FILE *stream = file >= 0 && (!replaces || fchmod(file, mode) == 0) ? fdopen(file, "wb") : NULL;

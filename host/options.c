@@ -155,8 +155,8 @@ static void print_sizes(void) {
 }
 
 static void print_steps(void) {
-    fputs("\nEach line of a listing is a step, or blank; # and ; begin a comment. Numbers are decimal, or hexadecimal behind 0x.\n\n",
-          stdout);
+    fputs("\nEach line of a listing is a step, or blank; # and ; begin a comment. "
+          "Numbers are decimal, or hexadecimal behind 0x.\n\n", stdout);
     for (size_t i = 0; form_at(i) != NULL; i++) {
         printf("  %-8s%-20s  %s\n", form_at(i)->name, form_at(i)->operands, form_at(i)->says);
     }
@@ -171,7 +171,7 @@ void print_help(void) {
     fputs("\nFor each step a line gives these six, and behind them is the total of the cycles:\n\n"
           "  index   the step's number, from 0\n"
           "  cycles  what the step costs\n"
-          "  value   READ: the data; FETCH: the halfword, 0 on a miss; THUMB, ARM: its cycles with the cartridge bus free; else 0\n"
+          "  value   READ: the data; FETCH: the halfword, 0 on a miss; THUMB, ARM: cycles with the cartridge bus free; else 0\n"
           "  hits    halfwords that FETCH, THUMB or ARM took from the prefetch; else 0\n"
           "  count   halfwords that stand in the prefetch after the step\n"
           "  force   1: the next opcode fetch is nonsequential\n"

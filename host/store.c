@@ -71,7 +71,8 @@ bool store_lengths(const char *name, const struct bytes *store, size_t lengths[M
         sum += lengths[i];
     }
     if (sum != store->len) {
-        complain("%s is no whole store: by its lengths it has %llu bytes, and it has %zu", name, (unsigned long long)sum, store->len);
+        complain("%s is no whole store: by its lengths it has %llu bytes, and it has %zu", name, (unsigned long long)sum,
+                 store->len);
     }
     return sum == store->len;
 }

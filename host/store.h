@@ -1,5 +1,5 @@
-/* The memories that a run is lent. They are held as a store file is laid out, so that one buffer is what is read, run and written:
- * "BTM", a version byte 1, the seven lengths as 4-byte numbers, then the bytes of the memories in the order below. */
+/* The memories that a run is lent. They are held as a store file is laid out, so that one buffer is what is read, run and
+ * written: "BTM", a version byte 1, the seven lengths as 4-byte numbers, then the bytes of the memories in the order below. */
 #ifndef HOST_STORE_H
 #define HOST_STORE_H
 

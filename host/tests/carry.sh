@@ -106,7 +106,7 @@ piece_checks() {
     good "10,000 steps" --board-out "$files/board" --store-out "$files/store" "$work/lines"
     grep -v total "$work/out" >"$work/whole"
     total=$(awk '{ s += $2 } END { print s }' "$work/whole")
-    check "their indices" is "$(cut -d' ' -f1 "$work/whole" | cksum)" "$(awk 'BEGIN { for (; i < 10000; i++) print i + 0 }' | cksum)"
+    check "their indices" awk '$1 != NR - 1 { bad = 1 } END { exit bad || NR != 10000 }' "$work/whole"
     check "one total" is "$(grep total "$work/out")" "total $total"
     good "their table" -v "$work/lines"
     check "its lines" is "$(grep -c '0x' "$work/out")" 10000
@@ -126,8 +126,8 @@ piece_checks() {
     check "the board" cmp -s "$files/board" "$files/board-part"
     check "the store" cmp -s "$files/store" "$files/store-part"
     rm "$files"/*
-    bad "a sheet of so many" 2 "-o can't write 10000 steps: a sheet holds at most 4096" -o "$files/new" --board-out "$files/new-board" \
-        "$work/lines"
+    bad "a sheet of so many" 2 "-o can't write 10000 steps: a sheet holds at most 4096" -o "$files/new" \
+        --board-out "$files/new-board" "$work/lines"
     { cat "$work/lines" && echo JUMP; } >"$work/bad"
     bad "a bad line behind so many" 2 "$work/bad:10001: JUMP is no step" --board-out "$files/new" "$work/bad"
 }
@@ -135,8 +135,8 @@ piece_checks() {
 # A refusal in a later piece is told with the record's index among all.
 late_refusal_checks() {
     lib=${BTS_LIB:-target/staticlib/libbts.a}
-    check "it builds" ${CC:-cc} -std=c11 -Wall -Wextra -Wpedantic -Wconversion -Werror -Iinclude -Ihost $here/pieces.c host/runs.c \
-        "$lib" -o "$work/pieces"
+    check "it builds" ${CC:-cc} -std=c11 -Wall -Wextra -Wpedantic -Wconversion -Werror -Iinclude -Ihost $here/pieces.c \
+        host/runs.c "$lib" -o "$work/pieces"
     check "it runs" is "$("$work/pieces")" "0 10000 10000
 7 9000 0"
 }

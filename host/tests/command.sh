@@ -33,11 +33,15 @@ help_checks() {
         '-o FILE' '--board-out FILE' '--sram-out FILE' '--store-out FILE' '-h, --help' --version; do
         check "$option is told" grep -q -e "^  $option   *[a-zA-Z]" "$work/help"
     done
+    column_checks
+    check "the steps" grep -q 'THUMB   ADDRESS OPCODE \[pc\]' "$work/help"
+}
+
+column_checks() {
     for column in index cycles value hits count force; do
         check "the column $column" grep -q "^  $column   *[a-zA-Z0-9]" "$work/help"
         check "the column $column in host/README.md" grep -q "^| \`$column\` | " host/README.md
     done
-    check "the steps" grep -q 'THUMB   ADDRESS OPCODE \[pc\]' "$work/help"
 }
 
 # What a contract can cite is what is there.
