@@ -2,7 +2,7 @@
 # compilers and rt are fakes that write down their calls. So nothing is proved, and a tool can be absent.
 
 scratch=$PWD/$work/scratch
-plain_tools='basename cat chmod cp cut dirname env find grep head id install ls mkdir mv rm rmdir sed sh sort tail touch tr uname wc'
+plain_tools='cat chmod cp cut dirname env find grep head ls mkdir mv rm sed sh sort tail touch tr wc'
 
 # A fresh copy: its sources are old, its library is newer, and every fake succeeds.
 scratch_tree() {
