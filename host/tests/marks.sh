@@ -65,7 +65,7 @@ marks_input_checks() {
 # for an input of its own.
 marks_list_checks() {
     sed -n 's/^    {\([0-9]*\), [a-z_0-9]*, ".*/D-\1/p' host/marks.c | sort >"$work/marked"
-    sed -n '/^## The marks/,/^## [^T]/s/^| \(D-[0-9]*\) .*/\1/p' host/README.md | sort >"$work/unmarked"
+    awk '/^## / { here = /The marks/ } here && /^\| D-/ { print $2 }' host/README.md | sort >"$work/unmarked"
     sed -n 's/^| \(D-[0-9]*\) .*/\1/p' docs/DIFFERENCES.md | sort >"$work/lines"
     check "lines were found" [ "$(wc -l <"$work/lines")" -ge 85 ]
     sort "$work/marked" "$work/unmarked" >"$work/both"
