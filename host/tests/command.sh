@@ -74,7 +74,7 @@ value_checks() {
     bad "- behind =" 2 "--board takes a file's name, not -" --board=- "$work/listing"
     bad "a flag's value" 2 "--bench takes no value" --bench=yes "$work/listing"
     bad "an unknown option's" 2 "--roms=$work/image is no option" "--roms=$work/image" "$work/listing"
-    bad "a short option's" 2 "-o=new is no option" -o=new "$work/listing"
+    bad "a short option's" 2 "-o=$files/new is no option" "-o=$files/new" "$work/listing"
 }
 
 # Some editors put EF BB BF in front of a text.
@@ -103,8 +103,8 @@ name_checks() {
     name_shown 'a\nb\tc\177' 'a\x0Ab\x09c\x7F'
     name_shown 'gr\303\274n \342\202\254 \360\237\216\256' "$(printf 'gr\303\274n \342\202\254 \360\237\216\256')"
     name_shown 'c1 \302\233 alone \274 cut \342\202' 'c1 \xC2\x9B alone \xBC cut \xE2\x82'
-    name_shown 'long \300\257 \340\200\257 half \355\240\200 high \364\220\200\200 turned \342\200\256' \
-        'long \xC0\xAF \xE0\x80\xAF half \xED\xA0\x80 high \xF4\x90\x80\x80 turned \xE2\x80\xAE'
+    name_shown 'long \301\277 \340\237\277 \360\217\277\277 half \355\240\200 high \364\220\200\200 turned \342\200\256' \
+        'long \xC1\xBF \xE0\x9F\xBF \xF0\x8F\xBF\xBF half \xED\xA0\x80 high \xF4\x90\x80\x80 turned \xE2\x80\xAE'
     name=$(printf 'b\033d')
     bad "an option" 2 '--b\x1Bd is no option' "--$name"
     echo JUMP >"$work/$name"
