@@ -29,6 +29,8 @@ listing_checks() {
     done
     good "steps" $here/steps.lst
     check "steps's lines" cmp -s "$work/out" $here/steps.out
+    good "steps over document 01's memories" --bench $here/steps.lst
+    check "the same lines" cmp -s "$work/out" $here/steps.out
     awk '{ printf "%s\r\n", $0 }' $here/steps.lst >"$work/crlf"
     good "lines that end in CR LF" "$work/crlf"
     check "their answers" cmp -s "$work/out" $here/steps.out
