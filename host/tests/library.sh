@@ -2,23 +2,23 @@
 
 # NAME SCRIPT..: a script that must have the library made, by rt and before the compiler is called
 makes_anew() {
-    label=$1
+    case_name=$1
     shift
     : >"$scratch/calls"
     inside "$@"
-    check "$label: rt is called" called "rt staticlib bts"
-    check "$label: and first" is "$(head -n 1 "$scratch/calls")" "rt staticlib bts"
-    check "$label: it is said" says "rt staticlib bts"
+    check "$case_name: rt is called" called "rt staticlib bts"
+    check "$case_name: and first" is "$(head -n 1 "$scratch/calls")" "rt staticlib bts"
+    check "$case_name: it is said" says "rt staticlib bts"
 }
 
 # NAME SCRIPT..: a script that must take the library as it is
 takes() {
-    label=$1
+    case_name=$1
     shift
     : >"$scratch/calls"
     inside "$@"
-    check "$label: no call of rt" not_called rt
-    check "$label: it is compiled" grep -q '^[rc]' "$scratch/calls"
+    check "$case_name: no call of rt" not_called rt
+    check "$case_name: it is compiled" grep -q '^[rc]' "$scratch/calls"
 }
 
 # The Rust in the copy: files of its names are enough, since the compiler is a fake.
