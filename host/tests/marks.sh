@@ -75,6 +75,15 @@ marks_list_checks() {
     done <"$work/marked"
 }
 
+# README's worked example says of each line that applies to it what that would add.
+marks_readme_checks() {
+    named=$(sed -n '/ by the model; /p' README.md | tr ' ,' '\n\n' | grep '^D-' | sort -u)
+    told=$(sed -n 's/^| [0-9] | \(D-[^|]*\)|.*/\1/p' README.md | tr ' ,' '\n\n' | grep '^D-' | sort -u)
+    check "README's example has lines" [ -n "$named" ]
+    check "README tells of each of them" is "$told" "$named"
+    check "README says what a contract quotes" grep -q "A contract quotes the model's figure" README.md
+}
+
 # SENTENCE STEPS..: the last line of the table, of these steps
 sentence() {
     sentence=$1
@@ -109,4 +118,4 @@ marks_piece_checks() {
 }
 
 every_pass="$every_pass marks_checks"
-once="$once marks_input_checks marks_list_checks marks_piece_checks"
+once="$once marks_input_checks marks_list_checks marks_readme_checks marks_piece_checks"
