@@ -93,11 +93,20 @@ sentence() {
     check "the last line: $(tail -n 1 "$work/out")" is "$(tail -n 1 "$work/out")" "$sentence"
 }
 
-# The steps of marks.lst have the marks of their comments. Behind the total stand words for each mark, and the figure.
+# LISTING OPTIONS..: its steps have the marks of their comments
+commented_marks() {
+    listing=$1
+    shift
+    good "$listing" -v "$@" "$listing"
+    check "the marks of $listing" is "$(shown_marks)" \
+        "$(sed -n 's/^[A-Z].*# //p' "$listing" | tr '\n' ';' | sed 's/;$//; s/;/; /g')"
+}
+
+# Behind the total stand words for each mark, and the figure.
 marks_checks() {
-    good "marks" -v $here/marks.lst
-    check "the marks of marks.lst" is "$(shown_marks)" \
-        "$(sed -n 's/^[A-Z].*# //p' $here/marks.lst | tr '\n' ';' | sed 's/;$//; s/;/; /g')"
+    take_settings "rom=zeros4 bios=zeros8 store=16,16,256,16,16,16,3"
+    commented_marks $here/marks-short.lst $with
+    commented_marks $here/marks.lst
     check "words of a mark" grep -q '^D-42  a branch, or any other change of the pc, is one fetch$' "$work/out"
     check "the lines in the end" is "$(tail -n 1 "$work/out" | tr ' ,' '\n\n' | grep '^D-')" \
         "$(sed -n 's/^\(D-[0-9]*\) .*/\1/p' "$work/out")"
@@ -112,9 +121,8 @@ marks_checks() {
 
 # What stands before a step is seen across the pieces of a long listing: step 4,097 is the target of a jump.
 marks_piece_checks() {
-    awk 'BEGIN { for (i = 0; i < 4095; i++) print "IDLE 1"; print "THUMB 0x08000100 0xE07E pc"; print "THUMB 0x08000200 0x1C00" }' \
-        >"$work/steps"
-    sentence "4101 by the model; D-29 and D-42 apply" "$(cat "$work/steps")"
+    awk 'BEGIN { for (i = 0; i < 4095; i++) print "IDLE 1" }' >"$work/pauses"
+    sentence "4101 by the model; D-29 and D-42 apply" "$(cat "$work/pauses")" "THUMB 0x08000100 0xE07E pc" "THUMB 0x08000200 0x1C00"
 }
 
 every_pass="$every_pass marks_checks"
