@@ -1,7 +1,8 @@
 # The inputs of docs/DIFFERENCES.md, from its own notation into listings. A line of output is an input:
 #   D-NUMBER, which of the line's inputs it is, the settings, the steps
 # with | between them; settings are parted by blanks, and steps by semicolons. Settings are `rom=` or `bios=` with bytes in
-# hexadecimal or with `zeros` and a length, `board=` with its WAITCNT, and `store=` with the seven lengths where they are not bench's.
+# hexadecimal or with `zeros` and a length, `board=` with its WAITCNT, and `store=` with the seven lengths where they are not
+# bench's.
 
 function number(text) { gsub(/,/, "", text); return text }
 
