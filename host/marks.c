@@ -98,20 +98,22 @@ static const struct mark marks[] = {
 
 enum { MARKS = sizeof marks / sizeof marks[0] };
 
+_Static_assert(sizeof marks / sizeof marks[0] <= MARKS_MOST, "struct met has a place for each row");
+
 void print_marks(const struct seen *seen, struct met *met) {
     for (size_t i = 0; i < MARKS; i++) {
         if (marks[i].touches(seen)) {
             printf(" D-%u", marks[i].line);
-            met->line[marks[i].line] = true;
+            met->row[i] = true;
         }
     }
 }
 
-/* The words of each line that was met; how many there are. */
+/* The words of each mark that was met; how many there are. */
 static unsigned print_words(const struct met *met) {
     unsigned count = 0;
     for (size_t i = 0; i < MARKS; i++) {
-        if (met->line[marks[i].line]) {
+        if (met->row[i]) {
             printf("D-%-3u %s\n", marks[i].line, marks[i].says);
             count++;
         }
@@ -122,10 +124,10 @@ static unsigned print_words(const struct met *met) {
 /* As in a sentence: D-27, D-42 and D-52. */
 static void print_names(const struct met *met, unsigned count) {
     unsigned left = count;
-    for (unsigned line = 0; line <= LINES; line++) {
-        if (met->line[line]) {
+    for (size_t i = 0; i < MARKS; i++) {
+        if (met->row[i]) {
             left--;
-            printf("D-%u%s", line, left > 1 ? ", " : left == 1 ? " and " : "");
+            printf("D-%u%s", marks[i].line, left > 1 ? ", " : left == 1 ? " and " : "");
         }
     }
 }

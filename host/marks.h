@@ -4,11 +4,11 @@
 
 #include "seen.h"
 
-enum { LINES = 85 }; /* docs/DIFFERENCES.md has D-1 to D-85 */
+enum { MARKS_MOST = 128 }; /* room for the rows of the table */
 
-/* The lines that were met in a run, by their numbers. */
+/* The marks that were met in a run, by their rows. */
 struct met {
-    bool line[LINES + 1];
+    bool row[MARKS_MOST];
 };
 
 /* The lines that touch a step, each behind a blank, on standard output; `met` gets them too. */
