@@ -8,11 +8,15 @@ use lib.Dec.{ltb}
 use lib.ListN.{take, drop, set, getD, take-append-drop, length-take, List·getD-eq-default}
 use lib.Seq.{take-set-le, drop-set-lt, take-set-lt, drop-set-add, set-out, getD-take, getD-drop}
 use borrow.Author.Tests.{ltb-true, ltb-false}
-use Rattle.model.specs.Memory.{byteIn}
+use Rattle.model.specs.Memory.{byteIn, after}
 use Rattle.model.specs.Store.{Put, landed, put, putBytes}
 use Rattle.model.specs.Laws.Stores.{landed-append, putBytes-two, putBytes-four}
 use Rattle.model.specs.Laws.Choice.{choose}
 use Rattle.model.specs.declared.Part.{Part}
+
+-- a part behind one that is known
+pub follows : {r p q : Part} {n : ℕ} → r ≡ after p n → p ≡ q → r ≡ after q n
+follows {n = n} e f = e ∙ ap (λ (p : Part). after p n) f
 
 -- the part of k bytes from a on
 abbrev partAt : ℕ → ℕ → Part

@@ -7,7 +7,9 @@ use Rattle.board.proofs.load_clock.Tie as tie
 
 returns : tie.Need-returns
 unfolding clockOf
-returns c = cc
+returns c =
+    let switch = c .before .before in
+    simp (c .before .load-prefetch .ensures, switch .prefetch-enable .ensures, switch .before .read16 .ensures)
 
 pub load-clock-spec : {M : Type 1} → statement M
 load-clock-spec = tie.close (tie.spec (search needs) (search needs) (search needs) (search needs) returns)

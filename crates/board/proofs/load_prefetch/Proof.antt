@@ -11,7 +11,9 @@ cast-t8 : tie.Need-cast-t8
 cast-t8 c = omega (arith, c .shared-slice-known3 .given 4)
 
 returns : tie.Need-returns
-returns c = cc
+returns c =
+    let words = c .before .before in
+    simp (words .read323 .ensures, words .before .read322 .ensures, words .before .before .read32 .ensures)
 
 pub load-prefetch-spec : {M : Type 1} → statement M
 load-prefetch-spec =

@@ -6,7 +6,7 @@ use Rattle.board.proofs.sound_bytes.Tie as tie
 
 returns : tie.Need-returns
 unfolding soundBytes
-returns c = cc
+returns c = simp (c .read16 .ensures, c .before .before .before .before .read32 .ensures)
 
 pub sound-bytes-spec : {M : Type 1} → statement M
 sound-bytes-spec =

@@ -11,4 +11,4 @@ hits-spec =
     (tie.spec
     (λ c κs. search needs)
     (λ c. search needs)
-    (λ c. cc))
+    (λ c. simp (c .before .occupied .ensures)))

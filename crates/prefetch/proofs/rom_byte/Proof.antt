@@ -9,4 +9,4 @@ rom-byte-spec =
     (tie.spec
     (λ c κs. search needs)
     (λ c κs. search needs)
-    (λ c. cc))
+    (λ c. simp (c .byte-at .ensures, c .before .rom-offset .ensures)))

@@ -16,4 +16,4 @@ rom-half-spec =
     (λ c. search needs)
     (λ c. search needs)
     (λ c. search needs)
-    (λ c. cc))
+    (λ c. simp (c .before .before .rom-byte .ensures, c .rom-byte2 .ensures, c .before .wrapping-add-u32 .ensures)))

@@ -9,4 +9,4 @@ try-fetch-half-spec =
     (tie.spec
     (λ c κs. search needs)
     (λ c κs. search needs)
-    (λ c. cc))
+    (λ c. simp (c .after-fetch .ensures, c .before .peek-half .ensures)))

@@ -1,4 +1,4 @@
--- `replay_headed` is safe: as much of each buffer is lent as `at_most` allows. Assumes nothing.
+-- `replay_headed` is safe: as much of each buffer is lent as `at_most` allows. Assumes nothing.  
 use borrow.Author.Needs.{needs}
 use Rattle.replay.proofs.replay_headed.Statement.{statement}
 use Rattle.replay.proofs.replay_headed.Tie as tie

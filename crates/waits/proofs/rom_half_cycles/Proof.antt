@@ -11,4 +11,4 @@ rom-half-cycles-spec =
     (tie.spec
     (λ c κs. search needs)
     (λ c κs. search needs)
-    (λ c. cc))
+    (λ c. simp (c .cycles-for-waits .ensures, c .before .rom-half-waits .ensures)))

@@ -4,8 +4,20 @@ use borrow.Author.Needs.{needs}
 use Rattle.waits.proofs.rom_waits.Statement.{statement}
 use Rattle.waits.proofs.rom_waits.Tie as tie
 
-pub rom-waits-spec : {M : Type 1} → statement M
+returns : tie.Need-returns
 unfolding romWaits
+returns c =
+    let first = c .before .before .before in
+    simp (
+      first .before .before .rom-n-waits .ensures,
+      first .before .rom-s-waits .ensures,
+      first .rom-n-waits2 .ensures,
+      c .before .before .rom-s-waits2 .ensures,
+      c .before .rom-n-waits3 .ensures,
+      c .rom-s-waits3 .ensures,
+    )
+
+pub rom-waits-spec : {M : Type 1} → statement M
 rom-waits-spec =
     tie.close
     (tie.spec
@@ -15,4 +27,4 @@ rom-waits-spec =
     (λ c κs. search needs)
     (λ c κs. search needs)
     (λ c κs. search needs)
-    (λ c. cc))
+    returns)

@@ -9,4 +9,4 @@ power-on-spec =
     (tie.spec
     (λ c κs. search needs)
     (λ c κs. search needs)
-    (λ c. cc))
+    (λ c. simp (c .from-waitcnt .ensures, c .before .power-on .ensures)))

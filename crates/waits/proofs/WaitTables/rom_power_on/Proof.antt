@@ -9,4 +9,4 @@ rom-power-on-spec =
     (tie.spec
     (λ c κs. search needs)
     (λ c κs. search needs)
-    (λ c. cc))
+    (λ c. simp (c .rom-waits .ensures, c .before .power-on .ensures)))

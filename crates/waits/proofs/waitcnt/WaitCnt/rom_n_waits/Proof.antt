@@ -8,12 +8,12 @@ pub rom-n-waits-spec : {M : Type 1} → statement M
 rom-n-waits-spec =
     tie.close
     (tie.spec
-    (λ c. search needs)
+    (λ c. c .match .keys1)
     (λ c κs. search needs)
-    (λ c. search needs)
+    (λ c. c .match .keys2)
     (λ c κs. search needs)
-    (λ c. search needs)
+    (λ c. c .match .keys3)
     (λ c κs. search needs)
-    (λ c. cc)
-    (λ c. cc)
-    (λ c. cc))
+    (λ c. simp (c .before .before .enum-told .given .1, c .n-waits .ensures))
+    (λ c. simp (c .before .before .enum-told2 .given .1, c .n-waits2 .ensures))
+    (λ c. simp (c .before .before .enum-told3 .given .1, c .n-waits3 .ensures)))
