@@ -21,19 +21,19 @@ high c = c .before .before .before .args .r
 
 returns : tie.Need-returns
 unfolding stepOf
-returns c = of-kind (c .before .args .r) 4 (omega arith) refl
+returns c = of-kind (c .before .args .r) 4 (c .if1 .taken) refl
 
 returns-2 : tie.Need-returns-2
 unfolding stepOf
-returns-2 c = of-kind (seven (c .before .before)) 7 (omega arith) cc
+returns-2 c = of-kind (seven (c .before .before)) 7 (c .before .before .if2 .taken) (simp (c .before .isa-state .ensures))
 
 returns-3 : tie.Need-returns-3
 unfolding stepOf
-returns-3 c = of-kind (low (c .before .before)) 1 (omega arith) cc
+returns-3 c = of-kind (low (c .before .before)) 1 (c .before .if4 .taken) (simp (c .access-size .ensures))
 
 returns-4 : tie.Need-returns-4
 unfolding stepOf
-returns-4 c = of-kind (low (c .before .before .before)) 2 (omega arith) cc
+returns-4 c = of-kind (low (c .before .before .before)) 2 (c .before .if5 .taken) (simp (c .access-size2 .ensures))
 
 returns-5 : tie.Need-returns-5
 unfolding stepOf
@@ -41,11 +41,11 @@ returns-5 c = of-kind (low (c .before .before)) 0 (omega arith) refl
 
 returns-6 : tie.Need-returns-6
 unfolding stepOf
-returns-6 c = of-kind (high (c .before .before .before)) 3 (omega arith) refl
+returns-6 c = of-kind (high (c .before .before .before)) 3 (c .before .if7 .taken) refl
 
 returns-7 : tie.Need-returns-7
 unfolding stepOf
-returns-7 c = of-kind (high (c .before .before .before)) 5 (omega arith) refl
+returns-7 c = of-kind (high (c .before .before .before)) 5 (c .if8 .taken) refl
 
 returns-8 : tie.Need-returns-8
 unfolding stepOf
@@ -53,7 +53,7 @@ returns-8 c = of-kind (high (c .before .before .before)) 6 (omega arith) refl
 
 returns-9 : tie.Need-returns-9
 unfolding stepOf
-returns-9 c = of-kind (high (c .before .before)) 8 (omega arith) refl
+returns-9 c = of-kind (high (c .before .before)) 8 (c .if9 .taken) refl
 
 returns-10 : tie.Need-returns-10
 unfolding stepOf
