@@ -1,5 +1,5 @@
-/* The lines of docs/DIFFERENCES.md that touch INSTRUCTION by its address and its opcode. Opcodes are told by the data sheet, not by
- * the model's tests: what the model makes of one is seen in its answer. */
+/* The lines of docs/DIFFERENCES.md that touch INSTRUCTION by its address and its opcode. Opcodes are told by the data sheet, not
+ * by the model's tests: what the model makes of one is seen in its answer. */
 #include "departs.h"
 
 static bool is_arm(const struct seen *s) {
@@ -45,7 +45,7 @@ bool own_fetch(const struct seen *s) {
 
 /* Outside ROM a nonsequential fetch costs the same. */
 bool jump_target(const struct seen *s) {
-    return code_in_rom(s) && s->past.any_opcode && s->past.opcode_jumped && !s->before.force && !begins_block(s->address);
+    return code_in_rom(s) && s->past.any_opcode && s->past.opcode_jumped && !begins_block(s->address);
 }
 
 bool wide_video_code(const struct seen *s) {

@@ -209,7 +209,7 @@ bool unaligned_half(const struct seen *s) {
 
 bool two_areas(const struct seen *s) {
     uint32_t last = last_byte(s);
-    return reads(s) && (s->area != area_of(last) || window_of(s->first) != window_of(last) || last < s->first);
+    return reads(s) && (s->area != area_of(last) || window_of(s->first) != window_of(last));
 }
 
 /* ---- video and SRAM */
@@ -258,7 +258,7 @@ bool no_mode(const struct seen *s) {
 
 /* Only in ROM does a sequential access cost less. */
 bool sequential_data(const struct seen *s) {
-    bool follows = s->past.any && s->past.kind == s->kind && s->past.size == 4 && s->past.address + 4 == s->address;
+    bool follows = s->past.kind == s->kind && s->past.size == 4 && s->past.address + 4 == s->address;
     return accesses(s) && s->size == 4 && s->area == AT_ROM && follows;
 }
 

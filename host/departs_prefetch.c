@@ -63,7 +63,7 @@ bool fetch_under_way(const struct seen *s) {
 }
 
 bool return_hits(const struct seen *s) {
-    return code_in_rom(s) && s->answer.hits > 0 && s->past.any_opcode && window_of(s->past.opcode_address) < 0;
+    return code_in_rom(s) && s->answer.hits > 0 && s->past.kept;
 }
 
 /* The flag keeps the force flag clear, and does nothing to a buffer. */

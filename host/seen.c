@@ -128,7 +128,6 @@ static void take_record(struct seen *seen, const uint8_t *record, bts_answer ans
 
 /* What the next step has behind it. */
 static void go_on(struct past *past, const struct seen *seen) {
-    past->any = true;
     past->kind = seen->kind;
     past->size = seen->size;
     past->address = seen->address;
@@ -137,6 +136,7 @@ static void go_on(struct past *past, const struct seen *seen) {
         past->opcode_jumped = seen->jumps;
         past->opcode_address = seen->address;
     }
+    past->kept = seen->kind == BTS_INSTRUCTION ? seen->area != AT_ROM : past->kept && seen->kind != BTS_RESTART;
     bool missed = code_in_rom(seen) && seen->answer.hits < seen->size / 2;
     past->missed = seen->kind != BTS_RESTART && (past->missed || missed);
     bool write = seen->kind == BTS_WRITE;

@@ -35,12 +35,12 @@ struct state {
 
 /* What went before a step in this run. */
 struct past {
-    bool any; /* a step stands before this one: */
-    uint8_t kind, size;
+    uint8_t kind, size; /* of the step before this one; 0 where there is none */
     uint32_t address;
     bool any_opcode; /* an INSTRUCTION stands somewhere before this one; the last: */
     bool opcode_jumped;
     uint32_t opcode_address;
+    bool kept;           /* that one was outside ROM, and the prefetch has not been restarted since */
     bool missed;         /* the prefetch was last started by an INSTRUCTION that missed */
     bool waits_stored;   /* 0x04000204 holds what was stored there, and not the zeros of memory never written */
     bool control_stored; /* the same of 0x04000800 */
@@ -48,12 +48,13 @@ struct past {
 
 struct seen {
     uint8_t kind, size;
-    bool jumps;       /* the flag: the instruction changed the pc */
-    uint32_t address, value; /* of a Thumb opcode the low 16 bits */
+    bool jumps; /* the flag: the instruction changed the pc */
+    uint32_t address;
+    uint32_t value; /* of a Thumb opcode the low 16 bits */
     bts_answer answer;
-    enum area area;   /* of the address */
-    uint32_t first;   /* READ, WRITE: the first of the `size` bytes; a store begins at a multiple of its size */
-    uint32_t idle;    /* cycles in which the cartridge bus is free */
+    enum area area;    /* of the address */
+    uint32_t first;    /* READ, WRITE: the first of the `size` bytes; a store begins at a multiple of its size */
+    uint32_t idle;     /* cycles in which the cartridge bus is free */
     uint32_t internal; /* INSTRUCTION: its internal cycles */
     struct state before, after;
     struct past past;

@@ -31,7 +31,8 @@ static void print_row(size_t k, const uint8_t *record, bts_answer a, unsigned lo
 void print_table(const struct account *account) {
     unsigned long long sum = 0;
     struct met met = {{false}};
-    printf("%5s  %-29s %10s  %-10s %4s %5s %5s %14s departs\n", "index", "step", "cycles", "value", "hits", "count", "force", "sum");
+    printf("%5s  %-29s %10s  %-10s %4s %5s %5s %14s %s\n", "index", "step", "cycles", "value", "hits", "count", "force", "sum",
+           "departs");
     for (size_t k = 0; k < account->count; k++) {
         const uint8_t *record = account->records + BTS_RECORD_SIZE * k;
         bts_answer a = bts_answer_at(account->answers, k);

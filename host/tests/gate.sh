@@ -32,11 +32,11 @@ gate_checks() {
     gate_tree
     inside env GRAYCART_SRC=rust tests/all
     check "all pass: status" is "$status" 0
-    for name in tools format library host against-rust; do check "$name is told" prints "==== $name: passed"; done
-    check "the calls" is "$(cat "$scratch/calls")" "$(printf '%s\n' 'rt fmt --check' 'rt staticlib bts' 'host/test ' \
-        'tests/against-rust/run 50')"
+    for name in tools format library bench host against-rust; do check "$name is told" prints "==== $name: passed"; done
+    check "the calls" is "$(cat "$scratch/calls")" "$(printf '%s\n' 'rt fmt --check' 'rt staticlib bts' 'rt check bench' \
+        'host/test ' 'tests/against-rust/run 50')"
     check "what is left out is listed at the end" is "$(tail -n 3 "$work/out")" "$(printf '%s\n' \
-        'left out: a folder, 5 checks (plain): why' 'left out in all: 5' 'tests/all: all 5 parts passed')"
+        'left out: a folder, 5 checks (plain): why' 'left out in all: 5' 'tests/all: all 6 parts passed')"
     inside env GRAYCART_SRC=rust BTS_LIB=other.a .ci/run
     check "the gate: the library of these sources" prints "library: made here"
     check "the gate: status" is "$status" 0
@@ -56,6 +56,8 @@ failing_part_checks() {
     check "the layout: the others are done" called "tests/against-rust/run 50"
     fake rt '[ "$1" != staticlib ]'
     fails_in "the library" library
+    fake rt '[ "$1" != check ]'
+    fails_in "bench" bench
     gate_tree
     gate_part host/test 'echo "9 checks, 1 failed"; exit 1'
     fails_in "host/test" host
@@ -74,7 +76,7 @@ missing_tool_checks() {
     done
     gate_tree
     rm "$scratch/bin/rt"
-    fails_in "no rt" "tools format library"
+    fails_in "no rt" "tools format library bench"
     check "no rt: it is named" prints "missing: rt"
     gate_tree
     fails_in "no Rust" tools elsewhere

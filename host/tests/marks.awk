@@ -1,7 +1,8 @@
 # The inputs of docs/DIFFERENCES.md, from its own notation into listings. A line of output is an input:
 #   D-NUMBER, which of the line's inputs it is, the settings, the steps
-# with | between them; settings are parted by blanks, and steps by semicolons. Settings are `rom=` or `bios=` with bytes in hexadecimal
-# or with `zeros` and a length, `waitcnt=`, and `store=` with the seven lengths where they are not bench's.
+# with | between them; settings are parted by blanks, and steps by semicolons. Settings are `rom=` or `bios=` with bytes in
+# hexadecimal or with `zeros` and a length, `board=` with its WAITCNT, and `store=` with the seven lengths where they are not
+# bench's.
 
 function number(text) { gsub(/,/, "", text); return text }
 
@@ -24,7 +25,7 @@ function step(n) {
 
 function setting(n, item, name) {
     name = tolower(w[1])
-    if (w[1] == "board") return w[2] == "WAITCNT" ? " waitcnt=" w[3] : " " w[2] "=" w[4]
+    if (w[1] == "board") return w[2] == "WAITCNT" ? " board=" w[3] : " counter=" w[4]
     if (w[1] == "no") return lend(w[2], 0) ? "" : " ?"
     if (w[3] == "bytes") { sub(/^.* of bytes /, "", item); gsub(/ /, ",", item); return " " name "=" item }
     if (lend(w[1], number(w[3]))) return ""

@@ -22,22 +22,19 @@ image() {
     esac
 }
 
-# SETTINGS of marks.awk: the program's options for them, in $with
+# SETTINGS of marks.awk: the program's options for them, in $lent
 take_settings() {
-    with=
+    lent=
     for setting in $1; do
         case $setting in
-            rom=* | bios=*) image "$work/${setting%%=*}" "${setting#*=}" ;;
-            store=*) zero_store "$work/store" "${setting#*=}" ;;
-            waitcnt=*) { le32 "${setting#*=}"; head -c 68 /dev/zero; } >"$work/board" ;;
+            rom=* | bios=*) image "$work/lent-${setting%%=*}" "${setting#*=}" ;;
+            store=*) zero_store "$work/lent-store" "${setting#*=}" ;;
+            board=*) { le32 "${setting#*=}"; head -c 68 /dev/zero; } >"$work/lent-board" ;;
             *) return 1 ;;
         esac
-        case $setting in
-            waitcnt=*) with="$with --board $work/board" ;;
-            *) with="$with --${setting%%=*} $work/${setting%%=*}" ;;
-        esac
+        lent="$lent --${setting%%=*} $work/lent-${setting%%=*}"
     done
-    case $with in *--store*) ;; *) with="$with --bench" ;; esac
+    case $lent in *--store*) ;; *) lent="$lent --bench" ;; esac
 }
 
 # The marks of the table in $work/out, as marks.tsv has them
@@ -55,7 +52,7 @@ marks_input_checks() {
     while IFS='|' read -r line which settings steps; do
         take_settings "$settings" || continue
         echo "$steps" | tr ';' '\n' >"$work/steps"
-        run -v $with "$work/steps"
+        run -v $lent "$work/steps"
         given=$(printf '%s\t%s\t%s' "$line" "$which" "$(shown_marks)")
         check "the marks of $line, input $which" is "$given" "$(grep "^$line	$which	" $here/marks.tsv)"
     done <"$work/inputs"
@@ -75,6 +72,15 @@ marks_list_checks() {
     done <"$work/marked"
 }
 
+# README's worked example says of each line that applies to it what that would add.
+marks_readme_checks() {
+    named=$(sed -n '/ by the model; /p' README.md | tr ' ,' '\n\n' | grep '^D-' | sort -u)
+    told=$(sed -n 's/^| [0-9] | \(D-[^|]*\)|.*/\1/p' README.md | tr ' ,' '\n\n' | grep '^D-' | sort -u)
+    check "README's example has lines" [ -n "$named" ]
+    check "README tells of each of them" is "$told" "$named"
+    check "README says what a contract quotes" grep -q "A contract quotes the model's figure" README.md
+}
+
 # SENTENCE STEPS..: the last line of the table, of these steps
 sentence() {
     sentence=$1
@@ -84,11 +90,20 @@ sentence() {
     check "the last line: $(tail -n 1 "$work/out")" is "$(tail -n 1 "$work/out")" "$sentence"
 }
 
-# The steps of marks.lst have the marks of their comments. Behind the total stand words for each mark, and the figure.
+# LISTING OPTIONS..: its steps have the marks of their comments
+commented_marks() {
+    listing=$1
+    shift
+    good "$listing" -v "$@" "$listing"
+    check "the marks of $listing" is "$(shown_marks)" \
+        "$(sed -n 's/^[A-Z].*# //p' "$listing" | tr '\n' ';' | sed 's/;$//; s/;/; /g')"
+}
+
+# Behind the total stand words for each mark, and the figure.
 marks_checks() {
-    good "marks" -v $here/marks.lst
-    check "the marks of marks.lst" is "$(shown_marks)" \
-        "$(sed -n 's/^[A-Z].*# //p' $here/marks.lst | tr '\n' ';' | sed 's/;$//; s/;/; /g')"
+    take_settings "rom=zeros4 bios=zeros8 store=16,16,256,16,16,16,3"
+    commented_marks $here/marks-short.lst $lent
+    commented_marks $here/marks.lst
     check "words of a mark" grep -q '^D-42  a branch, or any other change of the pc, is one fetch$' "$work/out"
     check "the lines in the end" is "$(tail -n 1 "$work/out" | tr ' ,' '\n\n' | grep '^D-')" \
         "$(sed -n 's/^\(D-[0-9]*\) .*/\1/p' "$work/out")"
@@ -103,10 +118,10 @@ marks_checks() {
 
 # What stands before a step is seen across the pieces of a long listing: step 4,097 is the target of a jump.
 marks_piece_checks() {
-    awk 'BEGIN { for (i = 0; i < 4095; i++) print "IDLE 1"; print "THUMB 0x08000100 0xE07E pc"; print "THUMB 0x08000200 0x1C00" }' \
-        >"$work/steps"
-    sentence "4101 by the model; D-29 and D-42 apply" "$(cat "$work/steps")"
+    awk 'BEGIN { for (i = 0; i < 4095; i++) print "IDLE 1" }' >"$work/pauses"
+    sentence "4101 by the model; D-29 and D-42 apply" "$(cat "$work/pauses")" "THUMB 0x08000100 0xE07E pc" \
+        "THUMB 0x08000200 0x1C00"
 }
 
 every_pass="$every_pass marks_checks"
-once="$once marks_input_checks marks_list_checks marks_piece_checks"
+once="$once marks_input_checks marks_list_checks marks_readme_checks marks_piece_checks"

@@ -81,3 +81,5 @@ readme_checks() {
         esac
     done <"$readme/not-run"
 }
+
+once="$once readme_checks"
