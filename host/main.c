@@ -172,8 +172,7 @@ static int end_output(const char *written) {
     return FAILED;
 }
 
-static int print(const struct options *options, const struct account *account) {
-    const struct options *o = options;
+static int print(const struct options *o, const struct account *account) {
     if (o->table) {
         print_table(account);
     } else {
