@@ -20,7 +20,6 @@ ghost use Prim.Native.Nat.{_≤_};
 ghost use lib.ListN.{length};
 ghost use Rattle.model.specs.Base.{encoded, field};
 ghost use Rattle.model.specs.BoardBytes as def;
-ghost use Rattle.model.specs.Step.{freshBoard};
 
 // ---- reading
 
@@ -226,7 +225,7 @@ pub fn put_board(board: &mut [u8], clock: Clock, halves: [u16; 8], contents: Con
 
 // The bytes of a fresh board.
 pub fn fresh() -> [u8; BOARD_LENGTH]
-    ensures { λ r. ⌜ r ≡ def.boardBytes freshBoard ⌝ }
+    ensures { λ r. ⌜ r ≡ def.boardBytes def.freshBoard ⌝ }
 {
     let board = Board::fresh();
     let clock = board.clock;

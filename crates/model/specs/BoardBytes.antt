@@ -1,13 +1,14 @@
 -- A board as 72 bytes, when such bytes are sound, and an answer as 12.
 -- From document 01, "Records (added)": "Board" is its word for the state that a run starts from and leaves.
-use mathlib.Core.Bool.{Bool, not, _&&_, _||_}
+use mathlib.Core.Bool.{Bool, false, not, _&&_, _||_}
 use mathlib.Core.List.{List, [], _∷_, _++_, map}
 use Prim.Native.Nat.{ℕ, zero, suc, _+_, _-_, _*_, _/_, _%_}
-use lib.ListN.{length}
+use lib.ListN.{length, replicate}
 use lib.Dec.{eqb, leb}
 use Rattle.model.specs.Base.{if_then_else_, bit, same, byteAt, number, Field, field, encoded}
 use Rattle.model.specs.Waitcnt.{prefetchEnable}
 use Rattle.model.specs.Wait.{inWindow}
+use Rattle.model.specs.Prefetch.{newBuffer}
 use Rattle.model.specs.declared.PrefetchBuffer.{PrefetchBuffer}
 use Rattle.model.specs.declared.Clock.{Clock}
 use Rattle.model.specs.declared.Contents.{Contents}
@@ -97,6 +98,23 @@ contentsFields d =
 unfoldable pub boardBytes : Board → List ℕ
 boardBytes b =
     encoded (clockFields (b .clock)) ++ (encoded (map (field 2) (b .halves)) ++ encoded (contentsFields (b .contents)))
+
+-- ---- the board whose bytes are all zero
+
+abbrev pub freshBoard : Board
+freshBoard =
+    record {
+      clock = record { waitcnt = 0; «force_next_fetch_n» = false; prefetch = newBuffer };
+      halves = replicate 8 0;
+      contents =
+          record {
+            «cpu_pc» = 0;
+            «last_bios_opcode» = 0;
+            «vram_write_count» = 0;
+            «oam_write_count» = 0;
+            «palette_write_count» = 0;
+          };
+    }
 
 -- ---- a sound board
 

@@ -2,7 +2,6 @@
 pub mod Choice
 pub mod Rules
 pub mod Figures
-pub mod Example
 pub mod Window
 pub mod Bounds
 pub mod Tick

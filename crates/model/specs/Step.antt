@@ -5,11 +5,11 @@
 use mathlib.Core.Bool.{Bool, false, _&&_}
 use mathlib.Core.List.{List, [], _∷_, map}
 use Prim.Native.Nat.{ℕ, _+_}
-use lib.ListN.{getD, replicate}
+use lib.ListN.{getD}
 use Rattle.model.specs.Base.{if_then_else_, bit, sum, further}
 use Rattle.model.specs.Waitcnt.{Waits, written, prefetchEnable, romWaits}
 use Rattle.model.specs.Wait.{window}
-use Rattle.model.specs.Prefetch.{newBuffer, setEnabled, restart, ticks, filled, hit, fetched}
+use Rattle.model.specs.Prefetch.{setEnabled, restart, ticks, filled, hit, fetched}
 use Rattle.model.specs.Price.{dataCycles}
 use Rattle.model.specs.Timing.{priceInsn}
 use Rattle.model.specs.Memory.{target}
@@ -287,20 +287,3 @@ run m s (x ∷ xs) =
 -- the total is the sum of the cycles
 abbrev pub total : Result → ℕ
 total r = sum (map (λ (x : Answer). x .cycles) (r .answers))
-
--- ---- the board whose bytes are all zero
-
-abbrev pub freshBoard : Board
-freshBoard =
-    record {
-      clock = record { waitcnt = 0; «force_next_fetch_n» = false; prefetch = newBuffer };
-      halves = replicate 8 0;
-      contents =
-          record {
-            «cpu_pc» = 0;
-            «last_bios_opcode» = 0;
-            «vram_write_count» = 0;
-            «oam_write_count» = 0;
-            «palette_write_count» = 0;
-          };
-    }

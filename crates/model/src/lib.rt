@@ -3,7 +3,7 @@
 // functions by which a type makes its own fresh value.
 ghost use mathlib.Core.Path.{_≡_};
 ghost use Rattle.model.specs.Prefetch.{newBuffer};
-ghost use Rattle.model.specs.Step.{freshBoard};
+ghost use Rattle.model.specs.BoardBytes.{freshBoard};
 
 // ---- src/bus/region.rs
 

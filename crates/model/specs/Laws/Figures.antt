@@ -19,7 +19,8 @@ use Rattle.model.specs.Memory.{byteIn, target}
 use Rattle.model.specs.Load.{sramByte, biosByte, load8, load16, load32}
 use Rattle.model.specs.Store.{put, modeOf, puts}
 use Rattle.model.specs.Step.{Media, Result, setWaitcnt, codeHits, codeFetched}
-use Rattle.model.specs.Step.{codeClock, halfAt, countStore, run, freshBoard}
+use Rattle.model.specs.BoardBytes.{freshBoard}
+use Rattle.model.specs.Step.{codeClock, halfAt, countStore, run}
 use Rattle.model.specs.declared.Answer.{Answer}
 use Rattle.model.specs.declared.Region.the-variants.{Ewram, Vram}
 use Rattle.model.specs.declared.AccessSize.the-variants.{Byte, Half, Word}

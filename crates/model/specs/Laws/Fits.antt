@@ -9,10 +9,11 @@ use lib.ListN.{length, length-map}
 use lib.Dec.{eqb, leb}
 use borrow.Author.Tests.{eqb-true, leb-true, eq-eqb, le-leb}
 use Rattle.model.specs.Base.{bit, sum, byteAt, number, AllBytes}
-use Rattle.model.specs.Step.{Media, State, run, timed, stepped, answer, freshBoard}
+use Rattle.model.specs.Step.{Media, State, run, timed, stepped, answer}
 use Rattle.model.specs.Sheet.{maxRecords, isShaped, recordStart, recordCount, recordAt}
 use Rattle.model.specs.Sheet.{recordsFrom, recordsOf, stepOf, stepsOf}
-use Rattle.model.specs.BoardBytes.{boardLength, clockOf, boardOf, boardBytes, soundPrefetch, soundBytes, sound}
+use Rattle.model.specs.BoardBytes.{boardLength, clockOf, boardOf, boardBytes, freshBoard}
+use Rattle.model.specs.BoardBytes.{soundPrefetch, soundBytes, sound}
 use Rattle.model.specs.Outcome.{Lent, LentBytes, Outcome, mediaOf, firstState, ran, outcome}
 use Rattle.model.specs.Laws.Choice.{All, choose, parts, and-true, bit≤1}
 use Rattle.model.specs.Laws.Bounds.{step-bounded}

@@ -11,7 +11,8 @@ use Rattle.model.specs.Wait.{window, inWindow, kindAt, nonseqIf, romHalf
 use Rattle.model.specs.Prefetch.{capacity, emptied, newBuffer, setEnabled, restartIn, restart, beatIn, startBeat}
 use Rattle.model.specs.Prefetch.{arrived, ended, advance, ready, tick1, ticks, occupied, hit, taken, fetched}
 use Rattle.model.specs.Step.{waitsOf, withPrefetch, setWaitcnt, romFetched, fetchedIn, codeFetched}
-use Rattle.model.specs.Step.{codeClock, Timed, timed, idled, clockAfter, freshBoard}
+use Rattle.model.specs.BoardBytes.{freshBoard}
+use Rattle.model.specs.Step.{codeClock, Timed, timed, idled, clockAfter}
 use Rattle.model.specs.Laws.Choice.{choose, either, never, tests, and-true-left, and-true-right, parts}
 use Rattle.model.specs.Laws.Window.{InRom, window-in}
 use Rattle.model.specs.Laws.Bounds.{SmallWaits, romWaits-small}

@@ -1,7 +1,15 @@
--- `replay_headed` is safe: as much of each buffer is lent as `at_most` allows. Assumes nothing.  
+-- `replay_headed` is safe: as much of each buffer is lent as `at_most` allows. Assumes nothing.
+use Prim.Native.Nat.{zero-le}
 use borrow.Author.Needs.{needs}
 use Rattle.replay.proofs.replay_headed.Statement.{statement}
 use Rattle.replay.proofs.replay_headed.Tie as tie
+
+-- where everything is read: the fifth length, and the third
+abbrev fifth : tie.After-lengths-of → tie.After-at-most5
+fifth c = c .before .before .before
+
+abbrev third : tie.After-lengths-of → tie.After-at-most3
+third c = fifth c .before .before .before .before
 
 fits-requires : tie.Need-fits-requires
 fits-requires c κs = search needs
@@ -55,55 +63,55 @@ sub-replay-lent : tie.Need-sub-replay-lent
 sub-replay-lent c = search needs
 
 part-sheet-start : tie.Need-part-sheet-start
-part-sheet-start c = search needs
+part-sheet-start c = zero-le
 
 part-sheet-end : tie.Need-part-sheet-end
-part-sheet-end c = search needs
+part-sheet-end c = third c .before .before .before .before .at-most .ensures
 
 sub-replay-lent-2 : tie.Need-sub-replay-lent-2
 sub-replay-lent-2 c = search needs
 
 part-board-start : tie.Need-part-board-start
-part-board-start c = search needs
+part-board-start c = zero-le
 
 part-board-end : tie.Need-part-board-end
-part-board-end c = search needs
+part-board-end c = third (c .before) .before .before .at-most2 .ensures
 
 sub-replay-lent-3 : tie.Need-sub-replay-lent-3
 sub-replay-lent-3 c = search needs
 
 part-store-start : tie.Need-part-store-start
-part-store-start c = search needs
+part-store-start c = zero-le
 
 part-store-end : tie.Need-part-store-end
-part-store-end c = c .before .before .before .before .before .before .before .before .before .at-most3 .ensures
+part-store-end c = third (c .before .before) .at-most3 .ensures
 
 sub-replay-lent-4 : tie.Need-sub-replay-lent-4
 sub-replay-lent-4 c = search needs
 
 part-bios-start : tie.Need-part-bios-start
-part-bios-start c = search needs
+part-bios-start c = zero-le
 
 part-bios-end : tie.Need-part-bios-end
-part-bios-end c = search needs
+part-bios-end c = fifth (c .before .before .before) .before .before .at-most4 .ensures
 
 sub-replay-lent-5 : tie.Need-sub-replay-lent-5
 sub-replay-lent-5 c = search needs
 
 part-rom-start : tie.Need-part-rom-start
-part-rom-start c = search needs
+part-rom-start c = zero-le
 
 part-rom-end : tie.Need-part-rom-end
-part-rom-end c = search needs
+part-rom-end c = fifth (c .before .before .before .before) .at-most5 .ensures
 
 sub-replay-lent-6 : tie.Need-sub-replay-lent-6
 sub-replay-lent-6 c = search needs
 
 part-answers-start : tie.Need-part-answers-start
-part-answers-start c = search needs
+part-answers-start c = zero-le
 
 part-answers-end : tie.Need-part-answers-end
-part-answers-end c = search needs
+part-answers-end c = c .before .before .before .before .before .before .at-most6 .ensures
 
 element-copy-out-replay-lent : tie.Need-element-copy-out-replay-lent
 element-copy-out-replay-lent c = search needs

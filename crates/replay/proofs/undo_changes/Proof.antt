@@ -1,4 +1,4 @@
--- `undo_changes` is safe and ends. The store keeps its length, and the measure is the changes that are left. Assumes nothing. 
+-- `undo_changes` is safe and ends. The store keeps its length, and the measure is the changes that are left. Assumes nothing.
 use mathlib.Core.Path.{_≡_}
 use lib.ListN.{length}
 use borrow.Author.Needs.{needs}

@@ -8,13 +8,13 @@ pub resolve-strb-spec : {M : Type 1} → statement M
 resolve-strb-spec =
     tie.close
     (tie.spec
-    (λ c. search needs)
+    (λ c. c .match .keys1)
     (λ c κs. search needs)
-    (λ c. search needs)
-    (λ c. search needs)
+    (λ c. c .match .keys2)
+    (λ c. c .match .keys3)
     (λ c κs. search needs)
-    (λ c. search needs)
-    (λ c. cc)
-    (λ c. search needs)
-    (λ c. cc)
-    (λ c. search needs))
+    (λ c. c .match .keys4)
+    (λ c. simp (c .expand-strb-byte .ensures, c .before .enum-told .given .1))
+    (λ c. simp (c .enum-told2 .given .1))
+    (λ c. simp (c .expand-strb-byte2 .ensures, c .before .enum-told3 .given .1))
+    (λ c. simp (c .enum-told4 .given .1)))

@@ -34,4 +34,4 @@ rom-half-waits-spec =
     (λ c. omega (arith, window-lt (entry c .args .window)))
     (λ c. omega (arith, window-lt (entry c .args .window)))
     (λ c. omega (arith, kind-lt (entry c .args .kind)))
-    (λ c. cc))
+    (λ c. simp (c .before .kind-index .ensures, c .before .before .window-index .ensures)))

@@ -1,4 +1,4 @@
--- `byte_at` meets its contract: reducing each number first changes the sum by a multiple of 251. Assumes nothing. 
+-- `byte_at` meets its contract: reducing each number first changes the sum by a multiple of 251. Assumes nothing.
 use mathlib.Core.Path.{_≡_, sym, ap, _∙_}
 use Prim.Native.Nat.{ℕ, _+_, _*_, _/_, _%_}
 use native.Mathlib.Nat.{mul-add-mod-self-right}

@@ -1,4 +1,4 @@
--- `fill` meets its contract: each byte passed is the pattern's, and the slice keeps its length. The measure is what is left of 
+-- `fill` meets its contract: each byte passed is the pattern's, and the slice keeps its length. The measure is what is left of
 -- it. Assumes nothing.
 use Prim.Native.Nat.{ℕ, _-_, _<_}
 use mathlib.Core.Path.{_≡_, _∙_}

@@ -1,4 +1,4 @@
--- `read_words` is safe and ends. The slice keeps its length, and the measure is what is left of it. Assumes nothing. 
+-- `read_words` is safe and ends. The slice keeps its length, and the measure is what is left of it. Assumes nothing.
 use Prim.Native.Nat.{_-_}
 use mathlib.Core.Path.{_≡_}
 use lib.ListN.{length}

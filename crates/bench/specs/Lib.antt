@@ -1,0 +1,2 @@
+-- What the program shows, as a theorem.
+pub mod Example
