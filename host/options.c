@@ -176,7 +176,8 @@ void print_help(void) {
           "  count   halfwords that stand in the prefetch after the step\n"
           "  force   1: the next opcode fetch is nonsequential\n"
           "\n"
-          "The table of -v has the step too, the sum of the cycles up to it, and the lines of docs/DIFFERENCES.md that touch it.\n"
+          "The table of -v has the step too, the sum of the cycles up to it, and the lines of docs/DIFFERENCES.md that touch "
+          "it.\n"
           "Nothing is written on an error. Exit status: 0 done; 1 refused by the run; 2 a bad line, option or file.\n",
           stdout);
 }

@@ -1,5 +1,5 @@
-# The library that host/ and tests/ link, never an old one in silence. Sourced from the repository's root by host/build, host/test,
-# tests/against-rust/run and tests/speed/run; $lib is then its path.
+# The library that host/ and tests/ link, never an old one in silence. Sourced from the repository's root by host/build,
+# host/test, tests/against-rust/run and tests/speed/run; $lib is then its path.
 #   library_ready    makes it with `rt staticlib bts` where it is absent or older than a source; returns 2 where it can't
 # BTS_LIB: another library, which is taken as it is; if a source is newer, that is said
 lib=${BTS_LIB:-target/staticlib/libbts.a}

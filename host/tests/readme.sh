@@ -82,13 +82,13 @@ readme_checks() {
     done <"$readme/not-run"
 }
 
-# What it needs, as the rest of the tree has it: the toolchain and the Rust of host/version.h, the tools that tests/all asks for, the
-# platform of the header, the optional tools that these tests look for. And each command of "Check it" says how long it takes.
+# What it needs, as the rest of the tree has it: the toolchain and the Rust of host/version.h, the tools that tests/all asks for,
+# the platform of the header, the optional tools that these tests look for. Each command of "Check it" says how long it takes.
 needs_checks() {
     sed -n '/^## What it needs/,/^## Price/p' README.md >"$work/needs"
     needed=$(sed -n 's/^#define HOST_TOOLCHAIN "\(.*\)"$/\1/p; s/^#define HOST_RUST ".*commit \(.*\)"$/\1/p' host/version.h)
     printf '%s\n' "$needed" rt cc c++ rustc gcc g++ valgrind pkg-config man-db x86-64 'Document 01' GRAYCART_SRC >"$work/words"
-    check "words to look for" is "$(wc -l <"$work/words" | tr -d ' ')" 13
+    check "words to look for" is "$(wc -l <"$work/words" | tr -d ' ')" 14
     while read -r word; do check "README needs $word" grep -qF -e "$word" "$work/needs"; done <"$work/words"
     sed -n '/^## Check it/,/^## Call it/p' README.md >"$work/check-it"
     for command in 'rt ci' tests/all tests/against-rust/run host/test tests/speed/run; do
