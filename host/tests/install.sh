@@ -6,36 +6,36 @@ installed() { [ -f "$root$1" ] && is "$(stat -c %a "$root$1")" "$2"; }
 install_checks() {
     root=$PWD/$work/root
     rm -rf "$root"
-    DESTDIR=$root PREFIX=/opt/bts BTS_LIB=$lib host/install 2>"$work/err"
+    DESTDIR=$root PREFIX=/prefix BTS_LIB=$lib host/install 2>"$work/err"
     check "host/install" is $? 0
-    check "the program" installed /opt/bts/bin/btsrun 755
+    check "the program" installed /prefix/bin/btsrun 755
     for file in include/bts.h lib/libbts.a lib/pkgconfig/bts.pc share/man/man1/btsrun.1; do
-        check "$file" installed "/opt/bts/$file" 644
+        check "$file" installed "/prefix/$file" 644
     done
-    check "it runs" is "$("$root/opt/bts/bin/btsrun" $here/bench.lst | tail -n 1)" "total 31"
+    check "it runs" is "$("$root/prefix/bin/btsrun" $here/bench.lst | tail -n 1)" "total 31"
     package_checks
-    touch "$root/opt/bts/lib/other"
-    DESTDIR=$root PREFIX=/opt/bts host/install --remove 2>"$work/err"
+    touch "$root/prefix/lib/other"
+    DESTDIR=$root PREFIX=/prefix host/install --remove 2>"$work/err"
     check "host/install --remove" is $? 0
-    check "only another's file is left" is "$(find "$root" -type f)" "$root/opt/bts/lib/other"
+    check "only another's file is left" is "$(find "$root" -type f)" "$root/prefix/lib/other"
     install_refusals
 }
 
 install_refusals() {
-    for prefix in opt/bts '/opt/b ts' '/opt/b|ts'; do
+    for prefix in prefix '/pre fix' '/pre|fix'; do
         DESTDIR=$root PREFIX=$prefix host/install 2>"$work/err"
         check "PREFIX $prefix" is $? 2
         check "PREFIX $prefix: it is said" says "host/install: PREFIX "
     done
     DESTDIR=$root host/install --all 2>"$work/err"
     check "an unknown option" is $? 2
-    check "nothing is installed" is "$(find "$root" -type f)" "$root/opt/bts/lib/other"
+    check "nothing is installed" is "$(find "$root" -type f)" "$root/prefix/lib/other"
 }
 
 # The README's C program, built by nothing but what pkg-config says of the installed files.
 package_checks() {
     command -v pkg-config >"$work/out" || { leave_out 3 "the pkg-config file" "pkg-config is not installed"; return; }
-    export PKG_CONFIG_SYSROOT_DIR="$root" PKG_CONFIG_PATH="$root/opt/bts/lib/pkgconfig"
+    export PKG_CONFIG_SYSROOT_DIR="$root" PKG_CONFIG_PATH="$root/prefix/lib/pkgconfig"
     check "the version" is "$(pkg-config --modversion bts)" "$(header_version)"
     readme_blocks c >"$work/package.c"
     check "it builds" ${CC:-cc} $(pkg-config --cflags bts) "$work/package.c" $(pkg-config --libs bts) -o "$work/package"

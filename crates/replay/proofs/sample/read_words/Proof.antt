@@ -27,20 +27,11 @@ same-length c = search needs
 returns : tie.Need-returns Inv-loop μ-loop
 returns c = search needs
 
-array-read-word : tie.Need-array-read-word Inv-loop μ-loop
-array-read-word c = search needs
+slice-aggregate-read32 : tie.Need-slice-aggregate-read32 Inv-loop μ-loop
+slice-aggregate-read32 c = search needs
 
-array-read-word-2 : tie.Need-array-read-word-2 Inv-loop μ-loop
-array-read-word-2 c = search needs
-
-array-read-word-3 : tie.Need-array-read-word-3 Inv-loop μ-loop
-array-read-word-3 c = search needs
-
-array-read-word-4 : tie.Need-array-read-word-4 Inv-loop μ-loop
-array-read-word-4 c = search needs
-
-word-requires : tie.Need-word-requires Inv-loop μ-loop
-word-requires c κs = search needs
+read32-requires : tie.Need-read32-requires Inv-loop μ-loop
+read32-requires c κs = search needs
 
 mul-out : tie.Need-mul-out Inv-loop μ-loop
 mul-out c = search needs
@@ -74,11 +65,8 @@ read-words-spec =
     read-bytes-requires
     same-length
     returns
-    array-read-word
-    array-read-word-2
-    array-read-word-3
-    array-read-word-4
-    word-requires
+    slice-aggregate-read32
+    read32-requires
     mul-out
     slice-write-out
     add-i
