@@ -5,7 +5,7 @@ use mathlib.Core.List.{List, [], _∷_, _++_}
 use Prim.Native.Nat.{ℕ}
 use lib.ListN.{replicate}
 use Rattle.model.specs.Sheet.{recordAt, recordsFrom, accessSize, isaState, stepOf, sizeFits, kindFault, fieldFault, firstOf}
-use Rattle.model.specs.BoardBytes.{boardLength, clockOf, contentsOf, boardBytes, soundBeat}
+use Rattle.model.specs.BoardBytes.{boardLength, clockOf, contentsOf, boardBytes, freshBoard, soundBeat}
 use Rattle.model.specs.BoardBytes.{soundRow, isZero, soundPrefetch, soundBytes, sound}
 use Rattle.model.specs.Outcome.{Lent, Outcome, sizesFit, verdict, ran, outcome}
 use Rattle.model.specs.Laws.Figures.{machine}
@@ -24,6 +24,11 @@ exampleSheet =
     ++ (7 ∷ 2 ∷ 0 ∷ 0 ∷ 0 ∷ 1 ∷ 0 ∷ 8 ∷ 0 ∷ 0x1C ∷ 0 ∷ 0 ∷ [])
     -- READ 2 at 0x02000000
     ++ (1 ∷ 2 ∷ 0 ∷ 0 ∷ 0 ∷ 0 ∷ 0 ∷ 2 ∷ 0 ∷ 0 ∷ 0 ∷ 0 ∷ [])
+
+-- a fresh board is 72 zero bytes: what `board::fresh` gives `bench`, and what the example lends
+pub fresh-zeros : boardBytes freshBoard ≡ replicate boardLength 0
+unfolding boardBytes
+fresh-zeros = refl
 
 -- what `bench` lends: a fresh board, zeroed memories of its lengths, no BIOS and no ROM
 abbrev pub example : Lent
