@@ -1,10 +1,11 @@
--- What a reader gets who trusts only the exported function: demands 1 and 3, of the outcome of any call of `bts_run`. Its
--- contract says of a call that was lent `i` and left `o` that `o ≡ outcome i`; everything here follows from that equation.
+-- What a reader gets who trusts only the exported function: demands 1 and 3, and what a WRITE tells, of the outcome of any call
+-- of `bts_run`. Its contract says of a call that was lent `i` and left `o` that `o ≡ outcome i`; everything here follows from
+-- that equation.
 use mathlib.Core.Path.{_≡_, refl}
 use mathlib.Core.Logic.{_≢_}
 use mathlib.Core.Bool.{true}
-use Prim.Native.Nat.{ℕ, _*_, _≤_}
-use Rattle.model.specs.Sheet.{maxRecords}
+use Prim.Native.Nat.{ℕ, _*_, _≤_, _<_}
+use Rattle.model.specs.Sheet.{maxRecords, recordAt, recordCount, stepOf}
 use Rattle.model.specs.BoardBytes.{sound}
 use Rattle.model.specs.Outcome.{Lent, LentBytes, Outcome, verdict, outcomeBy, outcome}
 use Rattle.model.specs.Alike.{AlikeSheets, AlikeBoards, Accounts, Demand3}
@@ -13,7 +14,10 @@ use Rattle.model.specs.Laws.Refusal as refusal
 use Rattle.model.specs.Laws.Refusal.{Table, Index, Acceptable, Untouched}
 use Rattle.model.specs.Laws.Fits.{board-sound, total-fits}
 use Rattle.model.specs.Laws.Demand3 as demand
+use Rattle.model.specs.Laws.Told.{Told, told}
 use Rattle.examine.specs.Verdicts.{ready, index-small}
+use Rattle.model.specs.declared.AccessSize.{AccessSize}
+use Rattle.model.specs.declared.Step.the-variants.{Write}
 use Rattle.model.specs.declared.Verdict.{Verdict}
 use Rattle.model.specs.declared.Verdict.the-variants.{Accepted, Refused}
 
@@ -56,6 +60,12 @@ module _ (i : Lent) (o : Outcome) (call : o ≡ outcome i) where
 
   pub accounts : o .number ≡ 0 → Accounts i o
   accounts = demand.accounts i o call
+
+  -- ---- W-201: byte 8 of a WRITE's answer is the number of memory bytes that its store wrote
+
+  pub landed-told : LentBytes i → o .number ≡ 0 → (k : ℕ) → k < recordCount (i .sheet)
+      → (z : AccessSize) (a v : ℕ) → stepOf (recordAt (i .sheet) k) ≡ Write z a v → Told i o k z a v
+  landed-told lent ok k h z a v e = told i o call ok lent k h z a v e
 
 -- ---- demand 3: any two accepted calls with alike sheets and boards, whatever memories they are lent
 

@@ -9,7 +9,7 @@ use Prim.Native.Nat.{ℕ, zero, suc, _+_, _*_, _≤_, _<_}
 use lib.ListN.{take, drop}
 use lib.Dec.{eqb}
 use Rattle.model.specs.Base.{if_then_else_, bit, sum, byteAt, number}
-use Rattle.model.specs.Step.{run, answer}
+use Rattle.model.specs.Step.{State, run, answer}
 use Rattle.model.specs.Sheet.{headerLength, recordAt, recordCount, recordsOf, stepOf, stepsOf}
 use Rattle.model.specs.BoardBytes.{boardLength, answerLength, answerBytes}
 use Rattle.model.specs.Outcome.{Lent, LentBytes, Outcome, mediaOf, firstState}
@@ -56,10 +56,13 @@ pub record Limits (rs : List SheetRecord) (n : ℕ) : Type 0 where
 
 -- ---- the claim
 
--- answer k as demand 2's definitions have it: that of step k, in the state that the first k steps leave
+-- the state that the first k steps leave
+unfoldable pub stateAt : Lent → ℕ → State
+stateAt i k = (run (mediaOf i) (firstState i) (take k (stepsOf (i .sheet)))) .state
+
+-- answer k as demand 2's definitions have it: that of step k, in that state
 unfoldable pub answerAt : Lent → ℕ → Answer
-answerAt i k =
-    answer (mediaOf i) ((run (mediaOf i) (firstState i) (take k (stepsOf (i .sheet)))) .state) (stepOf (recordAt (i .sheet) k))
+answerAt i k = answer (mediaOf i) (stateAt i k) (stepOf (recordAt (i .sheet) k))
 
 -- where answer k begins
 abbrev pub answerStart : ℕ → ℕ
@@ -89,10 +92,16 @@ pub record Accounts (i : Lent) (o : Outcome) : Type 0 where
   pub summed : LentBytes i → o .total ≡ sum (cyclesFrom (o .answers) 0 (recordCount (i .sheet)))
   pub limits : Limits (recordsOf (i .sheet)) (o .total)
 
+-- the bytes of an answer that are compared: 4 to 7 (cycles), 9 (prefetch count) and 10 (force flag) of every step, 8 (hits) of
+-- every step but WRITE, whose hits are the bytes that landed (W-201)
+pub record Compared (r : SheetRecord) (at : ℕ) : Type 0 where
+  pub from : 4 ≤ at
+  pub to : at ≤ 10
+  pub but-landed : at ≡ 8 → r .kind ≢ 2
+
 -- what two accepted runs have whose sheets and first boards are alike
 pub record Demand3 (i j : Lent) (o p : Outcome) : Type 0 where
-  -- bytes 4 to 10 of every step's answer: cycles, hits, prefetch count, force flag
-  pub columns : (k at : ℕ) → k < recordCount (i .sheet) → 4 ≤ at → at ≤ 10
+  pub columns : (k at : ℕ) → k < recordCount (i .sheet) → Compared (recordAt (i .sheet) k) at
       → byteAt (o .answers) (answerStart k + at) ≡ byteAt (p .answers) (answerStart k + at)
   pub totals : o .total ≡ p .total
   pub one : Accounts i o

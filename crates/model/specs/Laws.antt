@@ -15,6 +15,7 @@ pub mod Places
 pub mod Near
 pub mod RomLoad
 pub mod Stores
+pub mod Landed
 pub mod Aligned
 pub mod Run
 pub mod Times
@@ -24,3 +25,4 @@ pub mod Rows
 pub mod Refusal
 pub mod Fits
 pub mod Demand3
+pub mod Told

@@ -5,7 +5,7 @@
 use mathlib.Core.Bool.{Bool, false, _&&_}
 use mathlib.Core.List.{List, [], _∷_, map}
 use Prim.Native.Nat.{ℕ, _+_}
-use lib.ListN.{getD}
+use lib.ListN.{length, getD}
 use Rattle.model.specs.Base.{if_then_else_, bit, sum, further}
 use Rattle.model.specs.Waitcnt.{Waits, written, prefetchEnable, romWaits}
 use Rattle.model.specs.Wait.{window}
@@ -258,13 +258,18 @@ joined m s t d =
 abbrev pub stepped : Media → State → Step → State
 stepped m s x = joined m s (timed (s .board .clock) x) (changed m s x)
 
+-- the hits byte (W-201): the halfwords that the step takes from the buffer, or the bytes of its store that land. A step that
+-- stores takes none from the buffer, and one that takes some stores nothing, so the sum is the one or the other.
+abbrev pub hitsOf : Timed → Changed → ℕ
+hitsOf t d = t .hits + length (d .puts)
+
 -- the prefetch count and the force flag are those after the step
 abbrev pub answerOf : Timed → Changed → Answer
 answerOf t d =
     record {
       value = d .value;
       cycles = t .cycles;
-      hits = t .hits;
+      hits = hitsOf t d;
       count = (idled t) .prefetch .count;
       force = (idled t) .«force_next_fetch_n»;
     }

@@ -2,17 +2,21 @@
 -- of the definitions. Assumes nothing.
 use mathlib.Core.Path.{_≡_, _∙_, ap, ap₂, sym}
 use mathlib.Core.List.{List, _++_}
-use Prim.Native.Nat.{ℕ, _+_, _-_, _/_, _%_, _≤_, _<_}
+use Prim.Native.Nat.{ℕ, _+_, _-_, _≤_, _<_}
 use native.Mathlib.Omega.{arith}
+use native.Mathlib.Nat.{zero-add}
 use lib.Dec.{ltb}
-use lib.ListN.{take, drop, set, getD, take-append-drop, length-take, List·getD-eq-default}
+use lib.ListN.{length, take, drop, set, getD, take-append-drop, length-take, length-drop, List·getD-eq-default}
 use lib.Seq.{take-set-le, drop-set-lt, take-set-lt, drop-set-add, set-out, getD-take, getD-drop}
 use borrow.Author.Tests.{ltb-true, ltb-false}
+use Rattle.model.specs.Base.{bit}
 use Rattle.model.specs.Memory.{byteIn, after}
-use Rattle.model.specs.Store.{Put, landed, put, putBytes}
-use Rattle.model.specs.Laws.Stores.{landed-append, putBytes-two, putBytes-four}
+use Rattle.model.specs.Store.{Put, landed, put}
+use Rattle.model.specs.Laws.Landed.{put-lands}
 use Rattle.model.specs.Laws.Choice.{choose}
 use Rattle.model.specs.declared.Part.{Part}
+use Rattle.parts.specs.Stored.{storeReport, Stores, whole}
+use Rattle.parts.specs.declared.Stored.{Stored}
 
 -- a part behind one that is known
 pub follows : {r p q : Part} {n : ℕ} → r ≡ after p n → p ≡ q → r ≡ after q n
@@ -50,15 +54,45 @@ back-within xs a k i v =
     (λ e. back-set xs a k i v (ltb-true i k e))
     (λ e. back-out xs a k i v (ltb-false i k e))
 
--- a byte stored in the lent part lands; ys is what the leaf left in the part
-pub stored-part : (xs : List ℕ) (p : Part) (i v : ℕ) {ys : List ℕ}
-    → ys ≡ set (take (p .base + p .size - p .base) (drop (p .base) xs)) i v
-    → back xs (p .base) (p .base + p .size - p .base) ys ≡ landed xs (put p i v)
-stored-part xs p i v q =
+-- the bytes of a part, as they are lent
+abbrev pub lentOf : List ℕ → Part → List ℕ
+lentOf xs p = take (p .base + p .size - p .base) (drop (p .base) xs)
+
+-- what the leaf puts in the memory that it is lent is set there, or past its end
+leaf-set : (s : List ℕ) (i v : ℕ) → landed s (put (whole s) i v) ≡ set s i v
+unfolding put
+leaf-set s i v =
+    choose (λ (ps : List Put). landed s ps ≡ set s i v) (ltb i (length s))
+    (λ e. ap (λ (j : ℕ). set s j v) (zero-add i))
+    (λ e. sym (set-out s i v (ltb-false i (length s) e)))
+
+-- so the leaf stores as the definitions have it, and tells it
+pub leaf-stores : (s : List ℕ) (i v : ℕ) {after : List ℕ} {r : Stored} → after ≡ set s i v
+    → r ≡ storeReport (bit (ltb i (length s))) 0 → Stores (put (whole s) i v) 0 s after r
+leaf-stores s i v e f =
+    record {
+      bytes = e ∙ sym (leaf-set s i v);
+      number = ap (λ (x : Stored). x .landed) f ∙ sym (put-lands (whole s) i v);
+      halfwords = ap (λ (x : Stored). x .halfwords) f;
+    }
+
+-- a byte that the leaf puts in the lent part lands in the store; ys is what it left in the part
+pub stored-part : (xs : List ℕ) (p : Part) (i v : ℕ) {ys : List ℕ} {r : Stored} → p .base + p .size ≤ length xs
+    → Stores (put (whole (lentOf xs p)) i v) 0 (lentOf xs p) ys r
+    → Stores (put p i v) 0 xs (back xs (p .base) (p .base + p .size - p .base) ys) r
+stored-part xs p i v {ys} {r} h s =
     let length-is : p .base + p .size - p .base ≡ p .size = omega arith in
-    ap (λ (l : List ℕ). back xs (p .base) (p .base + p .size - p .base) l) q
-    ∙ ap (λ (n : ℕ). back xs (p .base) n (set (take n (drop (p .base) xs)) i v)) length-is
-    ∙ back-within xs (p .base) (p .size) i v
+    let size-is : length (lentOf xs p) ≡ p .size =
+    length-take (p .base + p .size - p .base) (drop (p .base) xs) ∙ omega (arith, length-drop (p .base) xs) in
+    record {
+      bytes =
+          ap (λ (l : List ℕ). back xs (p .base) (p .base + p .size - p .base) l) (s .bytes ∙ leaf-set (lentOf xs p) i v)
+          ∙ ap (λ (n : ℕ). back xs (p .base) n (set (take n (drop (p .base) xs)) i v)) length-is
+          ∙ back-within xs (p .base) (p .size) i v;
+      number =
+          s .number ∙ put-lands (whole (lentOf xs p)) i v ∙ ap (λ (n : ℕ). bit (ltb i n)) size-is ∙ sym (put-lands p i v);
+      halfwords = s .halfwords;
+    }
 
 -- a byte read from the lent part
 pub part-byte : (xs : List ℕ) (p : Part) (i : ℕ)
@@ -71,20 +105,3 @@ part-byte xs p i =
     (λ t. getD-take (p .size) (drop (p .base) xs) i 0 (ltb-true i (p .size) t) ∙ getD-drop (p .base) xs i 0)
     (λ t. List·getD-eq-default (take (p .size) (drop (p .base) xs)) 0
     (omega (arith, length-take (p .size) (drop (p .base) xs), ltb-false i (p .size) t)))
-
--- ---- bytes that land one behind the other
-
--- two bytes, and two pairs of them
-pub two-land : (xs : List ℕ) (p : Part) (i v : ℕ) {ys zs : List ℕ}
-    → ys ≡ landed xs (put p i (v % 256)) → zs ≡ landed ys (put p (i + 1) (v / 256 % 256)) → zs ≡ landed xs (putBytes p i 2 v)
-two-land xs p i v e f =
-    f ∙ ap (λ (l : List ℕ). landed l (put p (i + 1) (v / 256 % 256))) e
-    ∙ sym (landed-append xs (put p i (v % 256)) (put p (i + 1) (v / 256 % 256)))
-    ∙ ap (landed xs) (sym (putBytes-two p i v))
-
-pub four-land : (xs : List ℕ) (p : Part) (i v : ℕ) {ys zs : List ℕ}
-    → ys ≡ landed xs (putBytes p i 2 v) → zs ≡ landed ys (putBytes p (i + 2) 2 (v / 0x1_0000)) → zs ≡ landed xs (putBytes p i 4 v)
-four-land xs p i v e f =
-    f ∙ ap (λ (l : List ℕ). landed l (putBytes p (i + 2) 2 (v / 0x1_0000))) e
-    ∙ sym (landed-append xs (putBytes p i 2 v) (putBytes p (i + 2) 2 (v / 0x1_0000)))
-    ∙ ap (landed xs) (sym (putBytes-four p i v))

@@ -10,9 +10,10 @@ use model::VideoMemory;
 use region::mirror;
 ghost use mathlib.Core.Path.{_≡_};
 ghost use Prim.Native.Nat.{_+_, _^_, _≤_, _<_};
-ghost use lib.ListN.{length, set};
+ghost use lib.ListN.{length};
 ghost use Rattle.model.specs.Memory as def;
-ghost use Rattle.model.specs.Store.{landed, put, putBytes, putAligned};
+ghost use Rattle.model.specs.Store.{put, putBytes, putAligned};
+ghost use Rattle.parts.specs.Stored.{storeReport, Stores, whole};
 
 // ---- the seven memories, one after the other
 
@@ -155,17 +156,46 @@ pub fn byte_in(store: &[u8], part: Part, index: usize) -> u8
     byte_at(&store[base..end], index)
 }
 
-fn write_slice(buf: &mut [u8], index: usize, value: u8)
-    ensures { λ r. ⌜ now (buf .exit) ≡ set (now (buf .entry)) index value ⌝ }
-{
-    if index < buf.len() {
-        buf[index] = value;
+// What a store reports: the bytes that landed in its memory, and the video halfwords that it counts. The two go apart: a byte past
+// a memory's end doesn't land, and its halfword counts.
+pub struct Stored {
+    pub landed: u8,
+    pub halfwords: u32,
+}
+
+impl Stored {
+    // Two stores, one behind the other.
+    fn then(self, next: Stored) -> Stored
+        requires { ⌜ (self .landed + next .landed < 2 ^ 8) × (self .halfwords + next .halfwords < 2 ^ 32) ⌝ }
+        ensures { λ r. ⌜ r ≡ storeReport (self .landed + next .landed) (self .halfwords + next .halfwords) ⌝ }
+    {
+        Stored {
+            landed: self.landed + next.landed,
+            halfwords: self.halfwords + next.halfwords,
+        }
     }
 }
 
-pub fn put(store: &mut [u8], part: Part, index: usize, value: u8)
+// The leaf: it is lent a memory, and writes one byte of it or none.
+fn write_slice(buf: &mut [u8], index: usize, value: u8) -> Stored
+    ensures { λ r. ⌜ Stores (put (whole (now (buf .entry))) index value) 0 (now (buf .entry)) (now (buf .exit)) r ⌝ }
+{
+    if index >= buf.len() {
+        return Stored {
+            landed: 0,
+            halfwords: 0,
+        };
+    }
+    buf[index] = value;
+    Stored {
+        landed: 1,
+        halfwords: 0,
+    }
+}
+
+pub fn put(store: &mut [u8], part: Part, index: usize, value: u8) -> Stored
     requires { ⌜ part .base + part .size ≤ length (now store) ⌝ }
-    ensures { λ r. ⌜ now (store .exit) ≡ landed (now (store .entry)) (put part index value) ⌝ }
+    ensures { λ r. ⌜ Stores (put part index value) 0 (now (store .entry)) (now (store .exit)) r ⌝ }
 {
     let base = part.base;
     let end = base + part.size;
@@ -173,28 +203,30 @@ pub fn put(store: &mut [u8], part: Part, index: usize, value: u8)
 }
 
 // The two low bytes of a value, from an index on.
-fn put_two(store: &mut [u8], part: Part, index: usize, value: u32)
+fn put_two(store: &mut [u8], part: Part, index: usize, value: u32) -> Stored
     requires { ⌜ (part .base + part .size ≤ length (now store)) × (index + 1 < 2 ^ 64) ⌝ }
-    ensures { λ r. ⌜ now (store .exit) ≡ landed (now (store .entry)) (putBytes part index 2 value) ⌝ }
+    ensures { λ r. ⌜ Stores (putBytes part index 2 value) 0 (now (store .entry)) (now (store .exit)) r ⌝ }
 {
-    put(store, part, index, (value % 256) as u8);
-    put(store, part, index + 1, (value / 256 % 256) as u8);
+    let low = put(store, part, index, (value % 256) as u8);
+    let high = put(store, part, index + 1, (value / 256 % 256) as u8);
+    low.then(high)
 }
 
 // A halfword, aligned: `write16_video_raw`, for every memory.
-pub fn put_half(store: &mut [u8], part: Part, index: usize, value: u32)
+pub fn put_half(store: &mut [u8], part: Part, index: usize, value: u32) -> Stored
     requires { ⌜ part .base + part .size ≤ length (now store) ⌝ }
-    ensures { λ r. ⌜ now (store .exit) ≡ landed (now (store .entry)) (putAligned part index 2 value) ⌝ }
+    ensures { λ r. ⌜ Stores (putAligned part index 2 value) 0 (now (store .entry)) (now (store .exit)) r ⌝ }
 {
     put_two(store, part, index / 2 * 2, value)
 }
 
 // A word, aligned.
-pub fn put_word(store: &mut [u8], part: Part, index: usize, value: u32)
+pub fn put_word(store: &mut [u8], part: Part, index: usize, value: u32) -> Stored
     requires { ⌜ part .base + part .size ≤ length (now store) ⌝ }
-    ensures { λ r. ⌜ now (store .exit) ≡ landed (now (store .entry)) (putAligned part index 4 value) ⌝ }
+    ensures { λ r. ⌜ Stores (putAligned part index 4 value) 0 (now (store .entry)) (now (store .exit)) r ⌝ }
 {
     let aligned = index / 4 * 4;
-    put_two(store, part, aligned, value);
-    put_two(store, part, aligned + 2, value / 0x1_0000)
+    let low = put_two(store, part, aligned, value);
+    let high = put_two(store, part, aligned + 2, value / 0x1_0000);
+    low.then(high)
 }

@@ -7,7 +7,7 @@ use lib.ListN.{length}
 use Rattle.model.specs.Waitcnt.{Waits, romWaits}
 use Rattle.model.specs.Memory.{lengthsSum}
 use Rattle.model.specs.Store.{landed}
-use Rattle.model.specs.Step.{Media, State, Timed, timed, Changed, changed, stepped, answer, boardWith}
+use Rattle.model.specs.Step.{Media, State, Timed, timed, Changed, changed, hitsOf, stepped, answer, boardWith}
 use Rattle.model.specs.Laws.Sound.{SoundClock}
 use Rattle.model.specs.declared.AccessSize.{AccessSize}
 use Rattle.model.specs.declared.Clock.{Clock}
@@ -41,7 +41,7 @@ pub record Runnable (c : Clock) (t : Waits) (l : Lengths) (store : List ℕ) : T
 -- the two sides of a step, in one record of the code's
 abbrev pub joining : Timed → Changed → Begun
 joining t d =
-    record { clock = t .clock; idle = t .idle; cycles = t .cycles; hits = t .hits; value = d .value; contents = d .contents }
+    record { clock = t .clock; idle = t .idle; cycles = t .cycles; hits = hitsOf t d; value = d .value; contents = d .contents }
 
 abbrev pub begun : Media → State → Step → Begun
 begun m s x = joining (timed (s .board .clock) x) (changed m s x)

@@ -1,9 +1,10 @@
 -- An opcode fetched through the buffer, and a FETCH: the laws by which what was found makes the step.
-use mathlib.Core.Path.{_≡_, refl, ap, ap₂, _∙_}
+use mathlib.Core.Path.{_≡_, refl, sym, ap, ap₂, _∙_}
 use mathlib.Core.Bool.{Bool, true, false}
 use mathlib.Core.List.{List, []}
 use Prim.Native.Nat.{ℕ, _<_}
 use native.Mathlib.Omega.{arith}
+use native.Mathlib.Nat.{add-zero}
 use lib.ListN.{getD}
 use Rattle.model.specs.Base.{further}
 use Rattle.model.specs.Waitcnt.{Waits, romWaits}
@@ -116,4 +117,6 @@ unfolding codeClock codeFetched codeHits
 instruct c d t isa a op jump e p f =
     ap₂ (instructing c d)
     (p ∙ ap (λ (u : Waits). priceInsn (timingInput c isa a op jump) u (c .prefetch)) e)
-    (f ∙ ap (λ (u : Waits). codeFetch u (c .prefetch) a isa) e)
+    (f ∙ ap (λ (u : Waits). codeFetch u (c .prefetch) a isa) e
+    -- it stores nothing
+    ∙ ap (λ (n : ℕ). record { prefetch = codeFetched c isa a; hits = n }) (sym (add-zero (codeHits c isa a))))

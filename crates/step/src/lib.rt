@@ -155,7 +155,14 @@ fn write_step(
     let stored = stores::write(size, target, addr, value, store, lengths);
     let counted = count_store(contents, target, stored.halfwords);
     let cycles = data_price(clock.waitcnt, waits, size, region);
-    unanswered(clock, counted, cycles, 0)
+    Begun {
+        clock,
+        idle: 0,
+        cycles,
+        hits: stored.landed,
+        value: 0,
+        contents: counted,
+    }
 }
 
 // WAITCNT: `write`, then `apply_waitcnt`.

@@ -1,10 +1,11 @@
 -- What the arms and branches of the stores have in common: a callee's answer and the branch taken decide a test of the
 -- definitions. Assumes nothing.
 use mathlib.Core.Path.{_≡_, refl, _∙_, ap, sym}
-use mathlib.Core.List.{List}
+use mathlib.Core.List.{List, []}
 use mathlib.Core.Bool.{Bool, true, false, not}
 use Prim.Native.Nat.{ℕ, _*_, _%_, _≤_, _<_}
 use native.Mathlib.Omega.{arith}
+use lib.ListN.{length}
 use lib.Dec.{ltb, leb, lit<, lit≤}
 use borrow.Author.Tests.{ltb-false, le-leb}
 use Rattle.model.specs.Base.{if_then_else_, bit, lowered, byteOf}
@@ -18,7 +19,8 @@ use Rattle.model.specs.declared.AccessSize.{AccessSize}
 use Rattle.model.specs.declared.AccessSize.the-variants.{Byte, Half, Word}
 use Rattle.model.specs.declared.Part.{Part}
 use Rattle.stores.specs.Stored.{Filled}
-use Rattle.stores.specs.declared.Stored.{Stored}
+use Rattle.parts.specs.Stored.{storeReport, Stores, drops, same-puts, counting}
+use Rattle.parts.specs.declared.Stored.{Stored}
 use Rattle.model.specs.declared.VideoMemory.the-variants.{VideoRam}
 use Rattle.video.specs.Actions.{vramTarget, vramClass, doubled, fillsHalfword, byteAction}
 use Rattle.video.specs.declared.VideoTarget.{VideoTarget}
@@ -54,6 +56,15 @@ pub filled-with : (t : VideoTarget) (v : ℕ) {x : VideoWriteAction} {h : ℕ}
 filled-with t v {x} {h} s p q =
     let e : h ≡ doubled v = halfword-case (fillsHalfword t) (doubled v) h (sym p ∙ q) in
     omega arith
+
+-- it is filled, or nothing is stored
+pub is-filled : (p : Part) (i v : ℕ) {t : Bool} {h : ℕ} {before after : List ℕ} {r : Stored} → t ≡ true → h ≡ 0x0101 * (v % 256)
+    → Stores (putAligned p i 2 h) 0 before after r → Filled t p i v before after (storeReport (r .landed) 1)
+is-filled p i v e f s = rw e (counting 1 (same-puts (ap (λ (n : ℕ). putAligned p i 2 n) f) s))
+
+pub not-filled : (p : Part) (i v : ℕ) {t : Bool} {s : List ℕ} {r : Stored} → t ≡ false → Stores [] 0 [] [] r
+    → Filled t p i v s s r
+not-filled p i v e f = rw e (drops f)
 
 -- ---- the place in VRAM, by its class
 
@@ -98,6 +109,7 @@ byte-video p i v {f} {g} {before} e s =
     let low : v % 256 % 256 ≡ v % 256 = omega arith in
     record {
       bytes = s .bytes ∙ ap (λ (t : Bool). landed before (videoPuts t Byte p i (v % 256))) e ∙ rw low;
+      number = s .number ∙ ap (λ (t : Bool). length (videoPuts t Byte p i (v % 256))) e ∙ rw low;
       halfwords = s .halfwords ∙ ap bit e;
     }
 
@@ -112,8 +124,7 @@ lane-small a Byte = record { some = lit< tt; below = omega arith }
 lane-small a Half = record { some = lit< tt; below = omega arith }
 lane-small a Word = record { some = lit< tt; below = omega arith }
 
-pub lane-lands : (before : List ℕ) (p : Part) (i a v : ℕ) (z : AccessSize) {n b : ℕ} {after : List ℕ}
-    → n ≡ sizeBytes z → b ≡ byteOf (a % n) v → after ≡ landed before (put p i b)
-    → after ≡ landed before (put p i (byteOf (a % sizeBytes z) v))
-lane-lands before p i a v z e f s =
-    s ∙ ap (λ (x : ℕ). landed before (put p i x)) (f ∙ ap (λ (k : ℕ). byteOf (a % k) v) e)
+pub lane-lands : (p : Part) (i a v : ℕ) (z : AccessSize) {n b : ℕ} {before after : List ℕ} {r : Stored}
+    → n ≡ sizeBytes z → b ≡ byteOf (a % n) v → Stores (put p i b) 0 before after r
+    → Stores (put p i (byteOf (a % sizeBytes z) v)) 0 before after r
+lane-lands p i a v z e f s = same-puts (ap (put p i) (f ∙ ap (λ (k : ℕ). byteOf (a % k) v) e)) s

@@ -1,4 +1,4 @@
--- What a store does and reports: the contract of each function that stores.
+-- What each store does and reports, by size and memory: cases of the one contract `Stores`.
 use mathlib.Core.Path.{_≡_}
 use mathlib.Core.Bool.{Bool}
 use mathlib.Core.List.{List}
@@ -7,19 +7,15 @@ use lib.ListN.{length}
 use Rattle.model.specs.Memory.{lengthsSum}
 use Rattle.model.specs.Base.{bit}
 use Rattle.model.specs.Wait.{sizeBytes}
-use Rattle.model.specs.Store.{Put, landed, modeOf, putAligned, videoPuts, putsAt, videoCount}
+use Rattle.model.specs.Store.{modeOf, putAligned, videoPuts, putsAt, videoCount}
 use Rattle.model.specs.Laws.Places.{Lies}
 use Rattle.model.specs.declared.AccessSize.{AccessSize}
 use Rattle.model.specs.declared.AccessSize.the-variants.{Byte}
 use Rattle.model.specs.declared.Lengths.{Lengths}
 use Rattle.model.specs.declared.Part.{Part}
 use Rattle.model.specs.declared.Target.{Target}
-use Rattle.stores.specs.declared.Stored.{Stored}
-
--- these bytes land, and so many video halfwords are counted
-pub record Stores (ps : List Put) (k : ℕ) (before after : List ℕ) (r : Stored) : Type 0 where
-  pub bytes : after ≡ landed before ps
-  pub halfwords : r .halfwords ≡ k
+use Rattle.parts.specs.Stored.{Stores}
+use Rattle.parts.specs.declared.Stored.{Stored}
 
 -- a byte store to video memory that fills its halfword, or doesn't
 abbrev pub Filled : Bool → Part → ℕ → ℕ → List ℕ → List ℕ → Stored → Type 0

@@ -1,12 +1,13 @@
 // The bus's stores of 1, 2 and 4 bytes to the lent memories, which are parts of one store. Port of the stores of src/bus/mod.rs
-// (`Bus as CpuMem`). A store goes on from the memory that its address meets, which the caller has decoded, and reports the video
-// halfwords that it counts.
+// (`Bus as CpuMem`). A store goes on from the memory that its address meets, which the caller has decoded, and reports the bytes
+// that landed and the video halfwords that it counts.
 use le::lane;
 use model::AccessSize;
 use model::Lengths;
 use model::Part;
 use model::Target;
 use model::VideoMemory;
+use parts::Stored;
 use parts::byte_in;
 use parts::put;
 use parts::put_half;
@@ -16,20 +17,17 @@ use video::VideoWriteAction;
 use video::VramTarget;
 use waits::size_bytes;
 ghost use mathlib.Core.Path.{_≡_};
+ghost use mathlib.Core.List.{[]};
 ghost use Prim.Native.Nat.{_+_, _^_, _≤_, _<_};
 ghost use lib.ListN.{length};
 ghost use Rattle.model.specs.Memory.{lengthsSum};
 ghost use Rattle.model.specs.Video.{fills};
 ghost use Rattle.model.specs.Store as def;
+ghost use Rattle.parts.specs.Stored.{Stores};
 ghost use Rattle.stores.specs.Stored.{Filled, StoredPlain, StoredAt, Storable};
 ghost use Rattle.model.specs.declared.VideoMemory.the-variants.{VideoRam};
 ghost use Rattle.model.specs.declared.Target.the-variants.{Video};
 ghost use Rattle.video.specs.Actions.{fillsHalfword};
-
-// What a store reports: the video halfwords that it counts.
-pub struct Stored {
-    pub halfwords: u32,
-}
 
 // A counter stops at its greatest number.
 pub fn saturating_add(a: u64, b: u64) -> u64
@@ -74,6 +72,16 @@ fn video_target(memory: VideoMemory, index: usize, store: &[u8], lengths: Length
     }
 }
 
+// A store that no memory takes: nothing lands, and nothing counts.
+fn dropped() -> Stored
+    ensures { λ r. ⌜ Stores [] 0 [] [] r ⌝ }
+{
+    Stored {
+        landed: 0,
+        halfwords: 0,
+    }
+}
+
 // A byte store fills its halfword, or is dropped.
 fn write8_video(
     target: VideoTarget,
@@ -87,13 +95,16 @@ fn write8_video(
 {
     let action = video::resolve_strb(target, value);
     match action {
-        VideoWriteAction::Store => Stored { halfwords: 0 },
+        VideoWriteAction::Store => dropped(),
         VideoWriteAction::ExpandByteToHalfword { halfword } => {
-            put_half(store, part, index, halfword as u32);
-            Stored { halfwords: 1 }
+            let filled = put_half(store, part, index, halfword as u32);
+            Stored {
+                landed: filled.landed,
+                halfwords: 1,
+            }
         }
-        VideoWriteAction::Ignore => Stored { halfwords: 0 },
-        VideoWriteAction::Reject => Stored { halfwords: 0 },
+        VideoWriteAction::Ignore => dropped(),
+        VideoWriteAction::Reject => dropped(),
     }
 }
 
@@ -115,12 +126,18 @@ fn write_video(
             write8_video(target, part, index, (value % 256) as u8, store)
         }
         AccessSize::Half => {
-            put_half(store, part, index, value);
-            Stored { halfwords: 1 }
+            let half = put_half(store, part, index, value);
+            Stored {
+                landed: half.landed,
+                halfwords: 1,
+            }
         }
         AccessSize::Word => {
-            put_word(store, part, index, value);
-            Stored { halfwords: 2 }
+            let word = put_word(store, part, index, value);
+            Stored {
+                landed: word.landed,
+                halfwords: 2,
+            }
         }
     }
 }
@@ -130,18 +147,9 @@ fn write_plain(size: AccessSize, part: Part, index: usize, value: u32, store: &m
     ensures { λ r. ⌜ StoredPlain size part index value (now (store .entry)) (now (store .exit)) r ⌝ }
 {
     match size {
-        AccessSize::Byte => {
-            put(store, part, index, (value % 256) as u8);
-            Stored { halfwords: 0 }
-        }
-        AccessSize::Half => {
-            put_half(store, part, index, value);
-            Stored { halfwords: 0 }
-        }
-        AccessSize::Word => {
-            put_word(store, part, index, value);
-            Stored { halfwords: 0 }
-        }
+        AccessSize::Byte => put(store, part, index, (value % 256) as u8),
+        AccessSize::Half => put_half(store, part, index, value),
+        AccessSize::Word => put_word(store, part, index, value),
     }
 }
 
@@ -158,16 +166,13 @@ pub fn write(
     ensures { λ r. ⌜ StoredAt size addr value target lengths (now (store .entry)) (now (store .exit)) r ⌝ }
 {
     match target {
-        Target::Unused => Stored { halfwords: 0 },
-        Target::SystemRom => Stored { halfwords: 0 },
-        Target::GamePakRom => Stored { halfwords: 0 },
+        Target::Unused => dropped(),
+        Target::SystemRom => dropped(),
+        Target::GamePakRom => dropped(),
         Target::Plain(part, index) => write_plain(size, part, index, value, store),
         Target::Video(memory, part, index) => {
             write_video(size, memory, part, index, value, store, lengths)
         }
-        Target::Sram(part, index) => {
-            put(store, part, index, lane(value, addr % size_bytes(size)));
-            Stored { halfwords: 0 }
-        }
+        Target::Sram(part, index) => put(store, part, index, lane(value, addr % size_bytes(size))),
     }
 }

@@ -1,6 +1,6 @@
 -- Demand 3, of bytes as lent: every accepted run answers what the definitions have, its total is the sum of the cycles in its
 -- answers and lies within its limits; and two of them whose sheets and first boards are alike, over any memories, agree in
--- answer bytes 4 to 10 of every step and in the total.
+-- answer bytes 4 to 10 of every step, but for the hits of WRITE, and in the total.
 use mathlib.Core.Path.{_≡_, refl, sym, ap, ap₂, _∙_}
 use mathlib.Core.Logic.{_≢_}
 use mathlib.Core.Bool.{false}
@@ -8,19 +8,20 @@ use mathlib.Core.List.{List, [], _∷_, _++_, map}
 use Prim.Native.Nat.{ℕ, zero, suc, _+_, _-_, _*_, _%_, _≤_, _<_}
 use native.Mathlib.Omega.{arith}
 use native.Mathlib.Nat.{add-zero, add-assoc, mod-eq-of-lt}
-use lib.ListN.{length, getD, take, drop, length-map, List·getD-append}
-use lib.Seq.{getD-append-add, getD-take, getD-drop, drop-drop}
+use lib.ListN.{length, getD, take, drop, set, length-map, List·getD-append}
+use lib.Seq.{getD-append-add, getD-take, getD-drop, getD-set-other, drop-drop}
 use lib.Dec.{eqb}
+use borrow.Author.Tests.{eqb-true}
 use Rattle.model.specs.Base.{bit, sum, byteAt, bytes, number, field, encoded}
 use Rattle.model.specs.Waitcnt.{prefetchEnable}
-use Rattle.model.specs.Step.{Timed, timed, answer, run}
+use Rattle.model.specs.Step.{Media, State, Timed, timed, changed, answer}
 use Rattle.model.specs.Sheet.{recordAt, recordsFrom, recordCount, recordsOf, isaState, stepOf, stepsOf}
 use Rattle.model.specs.BoardBytes.{answerLength, clockOf, answerBytes, answersBytes}
 use Rattle.model.specs.Outcome.{Lent, LentBytes, Outcome, mediaOf, firstState, ran, outcomeBy, outcome}
-use Rattle.model.specs.Alike.{AlikeRecords, AlikeSheets, AlikeBoards, answerAt, answerStart}
-use Rattle.model.specs.Alike.{ReadBack, cyclesFrom, Accounts, Demand3}
-use Rattle.model.specs.Laws.Choice.{All, choose₂, tests, eqb-ne}
-use Rattle.model.specs.Laws.Times.{Times, times, SameTime, SameTimes, timings, run-timings}
+use Rattle.model.specs.Alike.{AlikeRecords, AlikeSheets, AlikeBoards, stateAt, answerAt, answerStart}
+use Rattle.model.specs.Alike.{ReadBack, cyclesFrom, Accounts, Compared, Demand3}
+use Rattle.model.specs.Laws.Choice.{All, choose, choose₂, by-test, tests, eqb-ne}
+use Rattle.model.specs.Laws.Times.{Times, times, withLanded, SameTime, SameTimes, timings, run-times}
 use Rattle.model.specs.Laws.Times.{run-total, timings-alike, totalOf}
 use Rattle.model.specs.Laws.Run.{run-at}
 use Rattle.model.specs.Laws.Limits.{timings-limits, records-length}
@@ -174,6 +175,33 @@ time-byte x at l u =
     ∙ getD-append-add (bytes 4 (x .value)) (timesBytes (times x) ++ (0 ∷ [])) (at - 4) 0
     ∙ List·getD-append (timesBytes (times x)) (0 ∷ []) 0 (at - 4) (omega arith)
 
+-- of these bytes, those that landed are in byte 8 alone
+landed-in-hits : (t : Times) (n j : ℕ) → (j ≡ 4 → n ≡ 0) → byteAt (timesBytes (withLanded n t)) j ≡ byteAt (timesBytes t) j
+landed-in-hits t n j h =
+    by-test (eqb j 4)
+    (λ e.
+    let none : n ≡ 0 = h (eqb-true j 4 e) in
+    ap (λ (k : ℕ). byteAt (timesBytes (withLanded k t)) j) none
+    ∙ ap (λ (k : ℕ). byteAt (set (timesBytes t) 4 (k % 256)) j) (add-zero (t .hits)))
+    (λ e. getD-set-other (timesBytes t) 4 j ((t .hits + n) % 256) 0 (eqb-ne j 4 e))
+
+-- a record that is no WRITE stores nothing
+stores-nothing : (r : SheetRecord) → r .kind ≢ 2 → (m : Media) (s : State) → (changed m s (stepOf r)) .puts ≡ []
+unfolding stepOf
+stores-nothing r h m s =
+    choose P (eqb (r .kind) 1) (λ e. refl)
+    λ e₁. choose P (eqb (r .kind) 2) (λ e. absurd (h (eqb-true (r .kind) 2 e)))
+    λ e₂. choose P (eqb (r .kind) 3) (λ e. refl)
+    λ e₃. choose P (eqb (r .kind) 4) (λ e. refl)
+    λ e₄. choose P (eqb (r .kind) 5) (λ e. refl)
+    λ e₅. choose P (eqb (r .kind) 6) (λ e. refl)
+    λ e₆. choose P (eqb (r .kind) 7) (λ e. refl)
+    λ e₇. choose P (eqb (r .kind) 8) (λ e. refl)
+    λ e₈. refl
+  where
+    P : Step → Type 0
+    P x = (changed m s x) .puts ≡ []
+
 -- the cycles stand in the answers as they are
 cycles-past : (x : Answer) (b : List ℕ) (k n : ℕ) → cyclesFrom (answerBytes x ++ b) (suc k) n ≡ cyclesFrom b k n
 cycles-past x b k zero = refl
@@ -199,16 +227,24 @@ noTimes = record { cycles = 0; hits = 0; count = 0; force = false }
 abbrev noAnswer : Answer
 noAnswer = record { value = 0; cycles = 0; hits = 0; count = 0; force = false }
 
-map-getD : (xs : List Answer) (k : ℕ) → times (getD xs k noAnswer) ≡ getD (map times xs) k noTimes
-map-getD [] k = refl
-map-getD (x ∷ xs) zero = refl
-map-getD (x ∷ xs) (suc k) = map-getD xs k
-
 step-at : (rs : List SheetRecord) (k : ℕ) (d : SheetRecord) → k < length rs
     → getD (map stepOf rs) k (Latch 0) ≡ stepOf (getD rs k d)
 step-at [] k d h = absurd (omega arith)
 step-at (r ∷ rs) zero d h = refl
 step-at (r ∷ rs) (suc k) d h = step-at rs k d (omega arith)
+
+module _ (i : Lent) (k : ℕ) (h : k < recordCount (i .sheet)) where
+  -- as many steps as records
+  pub step-there : k < length (stepsOf (i .sheet))
+  step-there = omega (arith, records-length (i .sheet) 0 (recordCount (i .sheet)), length-map (recordsOf (i .sheet)) stepOf)
+
+  -- step k is that of record k
+  pub step-is : getD (stepsOf (i .sheet)) k (Latch 0) ≡ stepOf (recordAt (i .sheet) k)
+  step-is =
+      step-at (recordsOf (i .sheet)) k (recordAt (i .sheet) 0)
+      (omega (arith, records-length (i .sheet) 0 (recordCount (i .sheet))))
+      ∙ ap stepOf
+      (record-in (i .sheet) 0 (recordCount (i .sheet)) k (recordAt (i .sheet) 0) h ∙ ap (recordAt (i .sheet)) (omega arith))
 
 module _ (i : Lent) (o : Outcome) (ok : o ≡ outcome i) (zero-number : o .number ≡ 0) where
   accepted : (outcome i) .number ≡ 0
@@ -219,15 +255,10 @@ module _ (i : Lent) (o : Outcome) (ok : o ≡ outcome i) (zero-number : o .numbe
 
   -- answer k is that of step k after the first k steps
   answer-is : (k : ℕ) → k < recordCount (i .sheet) → getD ((ran i) .answers) k noAnswer ≡ answerAt i k
-  unfolding ran answerAt
+  unfolding ran stateAt answerAt
   answer-is k h =
-      let n = records-length (i .sheet) 0 (recordCount (i .sheet)) in
-      let m = length-map (recordsOf (i .sheet)) stepOf in
-      run-at (mediaOf i) (firstState i) (stepsOf (i .sheet)) k noAnswer (Latch 0) (omega (arith, n, m))
-      ∙ ap (answer (mediaOf i) ((run (mediaOf i) (firstState i) (take k (stepsOf (i .sheet)))) .state))
-      (step-at (recordsOf (i .sheet)) k (recordAt (i .sheet) 0) (omega (arith, n))
-      ∙ ap stepOf
-      (record-in (i .sheet) 0 (recordCount (i .sheet)) k (recordAt (i .sheet) 0) h ∙ ap (recordAt (i .sheet)) (omega arith)))
+      run-at (mediaOf i) (firstState i) (stepsOf (i .sheet)) k noAnswer (Latch 0) (step-there i k h)
+      ∙ ap (answer (mediaOf i) (stateAt i k)) (step-is i k h)
 
   bytes-are : (k : ℕ) → k < recordCount (i .sheet)
       → take answerLength (drop (answerStart k) (o .answers)) ≡ answerBytes (answerAt i k)
@@ -264,17 +295,36 @@ module _ (i : Lent) (o : Outcome) (ok : o ≡ outcome i) (zero-number : o .numbe
         limits = rw time-total (timings-limits (clockOf (i .board)) (recordsOf (i .sheet)));
       }
 
-  column : (k at : ℕ) → k < recordCount (i .sheet) → 4 ≤ at → at ≤ 10
+  -- the bytes that step k lands
+  abbrev landedAt : ℕ → ℕ
+  landedAt k = length ((changed (mediaOf i) (stateAt i k) (stepOf (recordAt (i .sheet) k))) .puts)
+
+  -- its times are those of the run without memories, with the bytes that landed
+  times-are : (k : ℕ) → k < recordCount (i .sheet)
+      → times (answerAt i k) ≡ withLanded (landedAt k) (getD (timings (clockOf (i .board)) (stepsOf (i .sheet))) k noTimes)
+  unfolding ran stateAt
+  times-are k h =
+      ap times (sym (answer-is k h))
+      ∙ run-times (mediaOf i) (firstState i) (stepsOf (i .sheet)) k noAnswer noTimes (Latch 0) (step-there i k h)
+      ∙ ap
+      (λ (x : Step).
+      withLanded (length ((changed (mediaOf i) (stateAt i k) x) .puts))
+      (getD (timings (clockOf (i .board)) (stepsOf (i .sheet))) k noTimes))
+      (step-is i k h)
+
+  column : (k at : ℕ) → k < recordCount (i .sheet) → Compared (recordAt (i .sheet) k) at
       → byteAt (o .answers) (answerStart k + at)
       ≡ byteAt (timesBytes (getD (timings (clockOf (i .board)) (stepsOf (i .sheet))) k noTimes)) (at - 4)
-  unfolding ran
-  column k at h l u =
-      byte-there (o .answers) k (answerAt i k) (bytes-are k h) at (omega arith)
-      ∙ time-byte (answerAt i k) at l u
-      ∙ ap (λ (x : Answer). byteAt (timesBytes (times x)) (at - 4)) (sym (answer-is k h))
-      ∙ ap (λ (t : Times). byteAt (timesBytes t) (at - 4))
-      (map-getD ((ran i) .answers) k
-      ∙ ap (λ (ts : List Times). getD ts k noTimes) (run-timings (mediaOf i) (firstState i) (stepsOf (i .sheet))))
+  column k at h c =
+      let none : at - 4 ≡ 4 → landedAt k ≡ 0 =
+      λ e.
+      ap length
+      (stores-nothing (recordAt (i .sheet) k) (c .but-landed (omega (arith, c .from))) (mediaOf i) (stateAt i k))
+      in
+      byte-there (o .answers) k (answerAt i k) (bytes-are k h) at (omega (arith, c .to))
+      ∙ time-byte (answerAt i k) at (c .from) (c .to)
+      ∙ ap (λ (t : Times). byteAt (timesBytes t) (at - 4)) (times-are k h)
+      ∙ landed-in-hits (getD (timings (clockOf (i .board)) (stepsOf (i .sheet))) k noTimes) (landedAt k) (at - 4) none
 
 -- ---- the theorem
 
@@ -282,10 +332,10 @@ pub demand3 : (i j : Lent) (o p : Outcome) → o ≡ outcome i → p ≡ outcome
     → AlikeSheets (i .sheet) (j .sheet) → AlikeBoards (i .board) (j .board) → Demand3 i j o p
 demand3 i j o p e f m n s b =
     record {
-      columns = λ k at h l u.
-          column i o e m k at h l u
+      columns = λ k at h c.
+          column i o e m k at h c
           ∙ ap (λ (ts : List Times). byteAt (timesBytes (getD ts k noTimes)) (at - 4)) same
-          ∙ sym (column j p f n k at (omega (arith, alike-count (i .sheet) (j .sheet) s)) l u);
+          ∙ sym (column j p f n k at (omega (arith, alike-count (i .sheet) (j .sheet) s)) (other-compared k at h c));
       totals = time-total i o e m ∙ ap totalOf same ∙ sym (time-total j p f n);
       one = accounts i o e m;
       other = accounts j p f n;
@@ -300,3 +350,9 @@ demand3 i j o p e f m n s b =
     same =
         timings-alike (clockOf (i .board)) (stepsOf (i .sheet)) (stepsOf (j .sheet)) steps
         ∙ ap (λ (c : Clock). timings c (stepsOf (j .sheet))) (alike-clock (i .board) (j .board) b)
+
+    -- the records agree in kind, so the same bytes are compared
+    other-compared : (k at : ℕ) → k < recordCount (i .sheet) → Compared (recordAt (i .sheet) k) at
+        → Compared (recordAt (j .sheet) k) at
+    other-compared k at h c =
+        record { from = c .from; to = c .to; but-landed = λ e q. c .but-landed e ((s .records k h) .kind ∙ q) }

@@ -104,7 +104,7 @@ fresh-board = written-sound freshBoard fresh-sound refl
 pub record AnswerFits (x : Answer) : Type 0 where
   pub value : x .value < 2 ^ 32
   pub cycles : x .cycles ≤ 0xFFFF_FFFF
-  pub hits : x .hits ≤ 2
+  pub hits : x .hits < 256
   pub count : x .count ≤ 8
 
 -- a step whose numbers have 32 bits
@@ -120,10 +120,11 @@ record Fine (s : State) : Type 0 where
 module _ (m : Media) (b : MediaBytes m) where
   answer-fits : (s : State) (x : Step) → Fine s → StepFits x → AnswerFits (answer m s x)
   answer-fits s x f h =
+      let fits = changed-fits m b s (f .held) x (h .latch) in
       record {
-        value = (changed-fits m b s (f .held) x (h .latch)) .value;
+        value = fits .value;
         cycles = h .cycles (s .board .clock);
-        hits = (step-bounded (s .board .clock) x) .hits;
+        hits = omega (arith, (step-bounded (s .board .clock) x) .hits, fits .few);
         count = (clockAfter-sound (s .board .clock) x (f .clock)) .buffer .count≤8;
       }
 

@@ -1,16 +1,18 @@
 -- The core of demand 3: what an answer shows of time depends on the clock and on the steps alone. `timings` is the run
 -- without memories.
-use mathlib.Core.Path.{_≡_, refl, sym, ap, _∙_}
+use mathlib.Core.Path.{_≡_, refl, ap, _∙_}
 use mathlib.Core.Bool.{Bool}
-use mathlib.Core.List.{List, [], _∷_, map, map-map}
-use Prim.Native.Nat.{ℕ}
+use mathlib.Core.List.{List, [], _∷_, map}
+use Prim.Native.Nat.{ℕ, zero, suc, _+_, _<_}
+use native.Mathlib.Omega.{arith}
+use lib.ListN.{length, getD, take}
 use Rattle.model.specs.Base.{sum}
-use Rattle.model.specs.Step.{Media, State, run, total, Timed, timed, idled, clockAfter, stepped}
+use Rattle.model.specs.Step.{Media, State, run, total, Timed, timed, idled, clockAfter, changed, stepped}
 use Rattle.model.specs.declared.Clock.{Clock}
 use Rattle.model.specs.declared.Answer.{Answer}
 use Rattle.model.specs.declared.Step.{Step}
 
--- the columns that are compared
+-- the columns of time
 pub record Times : Type 0 where
   pub cycles : ℕ
   pub hits : ℕ
@@ -33,15 +35,23 @@ timings c (x ∷ xs) = timesOf (timed c x) ∷ timings (clockAfter c x) xs
 abbrev pub totalOf : List Times → ℕ
 totalOf ts = sum (map (λ (t : Times). t .cycles) ts)
 
--- a run's columns are those of its clock
-pub run-timings : (m : Media) (s : State) (xs : List Step) → map times ((run m s xs) .answers) ≡ timings (s .board .clock) xs
+-- the bytes that a store landed stand among the hits; they are the one thing in these columns that a memory enters
+abbrev pub withLanded : ℕ → Times → Times
+withLanded n t = record { cycles = t .cycles; hits = t .hits + n; count = t .count; force = t .force }
+
+-- a run's columns are those of its clock, with the bytes that landed
+pub run-times : (m : Media) (s : State) (xs : List Step) (k : ℕ) (d : Answer) (t : Times) (e : Step) → k < length xs
+    → times (getD ((run m s xs) .answers) k d)
+    ≡ withLanded (length ((changed m ((run m s (take k xs)) .state) (getD xs k e)) .puts)) (getD (timings (s .board .clock) xs) k t)
 unfolding run timings
-run-timings m s [] = refl
-run-timings m s (x ∷ xs) = ap (λ (r : List Times). timesOf (timed (s .board .clock) x) ∷ r) (run-timings m (stepped m s x) xs)
+run-times m s [] k d t e h = absurd (omega arith)
+run-times m s (x ∷ xs) zero d t e h = refl
+run-times m s (x ∷ xs) (suc k) d t e h = run-times m (stepped m s x) xs k d t e (omega arith)
 
 pub run-total : (m : Media) (s : State) (xs : List Step) → total (run m s xs) ≡ totalOf (timings (s .board .clock) xs)
-run-total m s xs =
-    ap sum (sym (map-map (λ (t : Times). t .cycles) times ((run m s xs) .answers))) ∙ ap totalOf (run-timings m s xs)
+unfolding run timings
+run-total m s [] = refl
+run-total m s (x ∷ xs) = ap (λ (n : ℕ). (timed (s .board .clock) x) .cycles + n) (run-total m (stepped m s x) xs)
 
 -- ---- one clock, and steps that take the same time from every clock
 

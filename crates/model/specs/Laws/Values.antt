@@ -5,7 +5,7 @@ use mathlib.Core.Bool.{Bool}
 use mathlib.Core.List.{List, [], _∷_, _++_}
 use Prim.Native.Nat.{ℕ, zero, suc, _+_, _*_, _/_, _%_, _^_, _≤_, _<_}
 use native.Mathlib.Omega.{arith}
-use lib.ListN.{getD, set}
+use lib.ListN.{length, getD, set}
 use lib.Dec.{eqb, ltb}
 use Rattle.model.specs.Base.{further, lowered, byteOf, byteAt, AllBytes}
 use Rattle.model.specs.Region.{biosSize}
@@ -22,6 +22,7 @@ use Rattle.model.specs.Step.{Media, State, busOf, waitsOf, halfAt, count
 use Rattle.model.specs.Step.{countStore, Timed, timed, Changed, changed, stepped}
 use Rattle.model.specs.Laws.Choice.{All, either}
 use Rattle.model.specs.Laws.Bounds.{cartIdle≤7}
+use Rattle.model.specs.Laws.Landed.{four-land}
 use Rattle.model.specs.declared.PrefetchBuffer.{PrefetchBuffer}
 use Rattle.model.specs.declared.Contents.{Contents}
 use Rattle.model.specs.declared.VideoMemory.{VideoMemory}
@@ -159,6 +160,7 @@ pub record Fitting (d : Changed) : Type 0 where
   pub value : d .value < 2 ^ 32
   pub latch : d .contents .«last_bios_opcode» < 2 ^ 32
   pub puts : All PutByte (d .puts)
+  pub few : length (d .puts) ≤ 4
 
 count-latch : (t : Target) (n : ℕ) (d : Contents) → (countedAt t n d) .«last_bios_opcode» ≡ d .«last_bios_opcode»
 count-latch Unused n d = refl
@@ -178,7 +180,7 @@ module _ (m : Media) (b : MediaBytes m) (s : State) (h : Held s) where
   bus-bytes = record { bios = b .bios; rom = b .rom; store = h .store }
 
   answering-fits : (v : ℕ) → v < 2 ^ 32 → Fitting (record { value = v; contents = s .board .contents; puts = [] })
-  answering-fits v k = record { value = k; latch = h .latch; puts = tt }
+  answering-fits v k = record { value = k; latch = h .latch; puts = tt; few = omega arith }
 
   half-fits : (a : ℕ) → halfAt (s .board) a < 2 ^ 32
   unfolding halfAt
@@ -194,14 +196,15 @@ module _ (m : Media) (b : MediaBytes m) (s : State) (h : Held s) where
         value = omega arith;
         latch = rw (count-latch (target (m .lengths) a)) (h .latch);
         puts = puts-bytes (m .lengths) _ z a v;
+        few = four-land (m .lengths) _ z a v;
       }
   changed-fits (Waitcnt v) k = answering-fits 0 (omega arith)
   changed-fits (Idle n) k = answering-fits 0 (omega arith)
   changed-fits (Fetch a) k = answering-fits _ (half-fits a)
   changed-fits (Restart a) k = answering-fits 0 (omega arith)
   changed-fits (Instruction isa a op jump) k = answering-fits _ (omega (arith, cartIdle≤7 (waitsOf (s .board .clock)) isa a op))
-  changed-fits (Pc a) k = record { value = omega arith; latch = h .latch; puts = tt }
-  changed-fits (Latch v) k = record { value = omega arith; latch = k v refl; puts = tt }
+  changed-fits (Pc a) k = record { value = omega arith; latch = h .latch; puts = tt; few = omega arith }
+  changed-fits (Latch v) k = record { value = omega arith; latch = k v refl; puts = tt; few = omega arith }
 
   pub stepped-held : (x : Step) → SmallLatch x → Held (stepped m s x)
   stepped-held x k =

@@ -11,7 +11,7 @@ start c = c .before .before .before .before .before .before
 returns : tie.Need-returns
 returns c =
     let a = start c .args in
-    stored-part (a .store .now) (a .part) (a .index) (a .value) (c .before .before .write-slice .ensures)
+    stored-part (a .store .now) (a .part) (a .index) (a .value) (start c .pre) (c .before .before .write-slice .ensures)
 
 pub put-spec : {M : Type 1} → statement M
 put-spec =

@@ -1,6 +1,8 @@
 -- `write_step` meets its contract: the address is decoded once, for the store, its count and the price. Assumes nothing.
 use mathlib.Core.Path.{_≡_, refl, sym, ap, ap₂, _∙_}
 use Prim.Native.Nat.{ℕ}
+use native.Mathlib.Nat.{zero-add}
+use lib.ListN.{length}
 use Rattle.model.specs.Waitcnt.{romWaits, sramWaits}
 use Rattle.model.specs.Memory.{targetIn, target}
 use Rattle.model.specs.Price.{price, dataBeatsIn, dataBeats}
@@ -30,13 +32,13 @@ write-requires c κs =
 returns : tie.Need-returns
 unfolding puts countStore dataBeats
 returns c =
-    let counted = c .before .before in
+    let counted = c .before in
     let stored = counted .before .before .before in
     let at = stored .before .before in
     let a = start at .args in
     let mode = modeOf (a .lengths) (a .store .now) in
     let priced =
-    c .before .data-price .ensures
+    c .data-price .ensures
     ∙ ap (λ (r : Region). price (romWaits (a .clock .waitcnt)) (dataBeatsIn (sramWaits (a .clock .waitcnt)) (a .size) r))
     (at .before .decode .ensures)
     in
@@ -45,10 +47,13 @@ returns c =
     ∙ ap (λ (n : ℕ). countedAt (at .target-in .result) n (a .contents)) (stored .write .ensures .halfwords)
     ∙ ap (λ (t : Target). countedAt t (videoCount mode (a .size) t) (a .contents)) (met at)
     in
+    let told =
+    stored .write .ensures .number
+    ∙ ap (λ (t : Target). length (putsAt mode (a .size) (a .addr) (a .value) t)) (met at)
+    ∙ sym (zero-add (length (putsAt mode (a .size) (a .addr) (a .value) (target (a .lengths) (a .addr)))))
+    in
     record {
-      record-is =
-          c .unanswered .ensures
-          ∙ (λ x. record { clock = a .clock; idle = 0; cycles = priced x; hits = 0; value = 0; contents = contents x });
+      record-is = λ x. record { clock = a .clock; idle = 0; cycles = priced x; hits = told x; value = 0; contents = contents x };
       store-is =
           stored .write .ensures .bytes
           ∙ ap (λ (t : Target). landed (a .store .now) (putsAt mode (a .size) (a .addr) (a .value) t)) (met at);
@@ -61,7 +66,6 @@ write-step-spec =
     (λ c κs. search needs)
     (λ c κs. search needs)
     write-requires
-    (λ c κs. search needs)
     (λ c κs. search needs)
     (λ c κs. search needs)
     (λ c. search needs)

@@ -1,5 +1,5 @@
 -- `write` meets its contract: each arm stores in the memory that it matched, which lies in the store. Assumes nothing.
-use mathlib.Core.Path.{refl}
+use Rattle.parts.specs.Stored.{drops}
 use Rattle.stores.proofs.Arms.{lane-small, lane-lands}
 use borrow.Author.Needs.{needs}
 use Rattle.stores.proofs.write.Statement.{statement}
@@ -36,13 +36,13 @@ put-requires c κs =
     (rw (told .target3 .given .1) at (told .before .before .before .pre .memory)) .end
 
 returns : tie.Need-returns
-returns c = simp (c .enum-told .given .1) (record { bytes = refl; halfwords = refl })
+returns c = simp (c .before .enum-told .given .1) (drops (c .dropped .ensures))
 
 returns-2 : tie.Need-returns-2
-returns-2 c = simp (c .enum-told2 .given .1) (record { bytes = refl; halfwords = refl })
+returns-2 c = simp (c .before .enum-told2 .given .1) (drops (c .dropped2 .ensures))
 
 returns-3 : tie.Need-returns-3
-returns-3 c = simp (c .enum-told3 .given .1) (record { bytes = refl; halfwords = refl })
+returns-3 c = simp (c .before .enum-told3 .given .1) (drops (c .dropped3 .ensures))
 
 returns-4 : tie.Need-returns-4
 returns-4 c =
@@ -62,20 +62,18 @@ returns-6 c =
     let asked = sized .before in
     let a = start asked .args in
     simp (asked .before .before .target3 .given .1)
-    (record {
-      bytes =
-          lane-lands (a .store .now) _ _ (a .addr) (a .value) (a .size)
-          (sized .size-bytes .ensures) (laned .lane .ensures) (stored .put .ensures);
-      halfwords = refl;
-    })
+    (lane-lands _ _ (a .addr) (a .value) (a .size) (sized .size-bytes .ensures) (laned .lane .ensures) (stored .put .ensures))
 
 pub write-spec : {M : Type 1} → statement M
 write-spec =
     tie.close
     (tie.spec
     (λ c. search needs)
+    (λ c κs. search needs)
     (λ c. search needs)
+    (λ c κs. search needs)
     (λ c. search needs)
+    (λ c κs. search needs)
     (λ c. search needs)
     write-plain-requires
     (λ c. search needs)

@@ -1,5 +1,5 @@
 -- `write_video` meets its contract, by the size: a byte fills its halfword or is dropped. Assumes nothing.
-use mathlib.Core.Path.{ap, _∙_}
+use Rattle.parts.specs.Stored.{counting}
 use Rattle.stores.proofs.Arms.{byte-video}
 use borrow.Author.Needs.{needs}
 use Rattle.stores.proofs.write_video.Statement.{statement}
@@ -15,14 +15,10 @@ returns c =
     (byte-video (a .part) (a .index) (a .value) (asked .video-target .ensures) (filled .write8-video .ensures))
 
 returns-2 : tie.Need-returns-2
-returns-2 c =
-    let e = c .before .before .before .before .enum-told2 .given .1 in
-    record { bytes = c .before .before .put-half .ensures ∙ simp e; halfwords = simp e }
+returns-2 c = simp (c .before .before .before .before .enum-told2 .given .1) (counting 1 (c .before .before .put-half .ensures))
 
 returns-3 : tie.Need-returns-3
-returns-3 c =
-    let e = c .before .before .before .before .enum-told3 .given .1 in
-    record { bytes = c .before .before .put-word .ensures ∙ simp e; halfwords = simp e }
+returns-3 c = simp (c .before .before .before .before .enum-told3 .given .1) (counting 2 (c .before .before .put-word .ensures))
 
 pub write-video-spec : {M : Type 1} → statement M
 write-video-spec =

@@ -1,0 +1,85 @@
+-- W-201, of bytes as lent: what byte 8 of a WRITE's answer tells of the store that the run leaves.
+use mathlib.Core.Path.{_≡_, sym, ap, _∙_}
+use mathlib.Core.List.{List}
+use Prim.Native.Nat.{ℕ, suc, _+_, _≤_, _<_}
+use lib.ListN.{length}
+use lib.Seq.{take-suc}
+use Rattle.model.specs.Base.{byteAt}
+use Rattle.model.specs.Memory.{lengthsSum}
+use Rattle.model.specs.Store.{Put, landed, modeOf, puts}
+use Rattle.model.specs.Step.{State, run, stepped, answer}
+use Rattle.model.specs.Sheet.{recordAt, recordCount, stepOf, stepsOf}
+use Rattle.model.specs.Outcome.{Lent, LentBytes, Outcome, mediaOf, firstState, outcome}
+use Rattle.model.specs.Alike.{stateAt, answerAt, answerStart}
+use Rattle.model.specs.Laws.Run.{run-snoc}
+use Rattle.model.specs.Laws.Landed.{four-land, none-lands, Written, written, write-hits, same-hits}
+use Rattle.model.specs.Laws.Demand3.{step-there, step-is, accounts}
+use Rattle.model.specs.declared.AccessSize.{AccessSize}
+use Rattle.model.specs.declared.Step.{Step}
+use Rattle.model.specs.declared.Step.the-variants.{Write, Latch}
+
+-- the bytes that a WRITE of step k lands, in the display mode of its moment
+abbrev pub putsOf : Lent → ℕ → AccessSize → ℕ → ℕ → List Put
+putsOf i k z a v = puts (i .lengths) (modeOf (i .lengths) ((stateAt i k) .store)) z a v
+
+-- byte 8 of answer k
+abbrev pub hitsByte : Outcome → ℕ → ℕ
+hitsByte o k = byteAt (o .answers) (answerStart k + 8)
+
+-- what it tells, where step k is a WRITE
+pub record Told (i : Lent) (o : Outcome) (k : ℕ) (z : AccessSize) (a v : ℕ) : Type 0 where
+  -- the step leaves the store with these bytes landed, each at a place of its own in the lent memories
+  pub store : (stateAt i (suc k)) .store ≡ landed ((stateAt i k) .store) (putsOf i k z a v)
+  pub places : Written (lengthsSum (i .lengths)) (putsOf i k z a v)
+  -- and byte 8 is how many they are, 0 to 4
+  pub number : hitsByte o k ≡ length (putsOf i k z a v)
+  pub most : hitsByte o k ≤ 4
+  -- 0: the store is as it was
+  pub none : hitsByte o k ≡ 0 → (stateAt i (suc k)) .store ≡ (stateAt i k) .store
+
+-- one step more
+state-next : (i : Lent) (k : ℕ) → k < recordCount (i .sheet)
+    → stateAt i (suc k) ≡ stepped (mediaOf i) (stateAt i k) (stepOf (recordAt (i .sheet) k))
+unfolding stateAt
+state-next i k h =
+    ap (λ (xs : List Step). (run (mediaOf i) (firstState i) xs) .state)
+    (take-suc (stepsOf (i .sheet)) k (Latch 0) (step-there i k h))
+    ∙ ap (λ r. r .state) (run-snoc (mediaOf i) (firstState i) _ _)
+    ∙ ap (stepped (mediaOf i) (stateAt i k)) (step-is i k h)
+
+module _ (i : Lent) (o : Outcome) (ok : o ≡ outcome i) (zero-number : o .number ≡ 0) (lent : LentBytes i)
+    (k : ℕ) (h : k < recordCount (i .sheet)) (z : AccessSize) (a v : ℕ) (e : stepOf (recordAt (i .sheet) k) ≡ Write z a v) where
+  hits-are : hitsByte o k ≡ (answer (mediaOf i) (stateAt i k) (Write z a v)) .hits
+  unfolding answerAt
+  hits-are =
+      ((accounts i o ok zero-number) .fields lent k h) .hits
+      ∙ ap (λ (x : Step). (answer (mediaOf i) (stateAt i k) x) .hits) e
+
+  number-is : hitsByte o k ≡ length (putsOf i k z a v)
+  number-is = hits-are ∙ write-hits (mediaOf i) (stateAt i k) z a v
+
+  store-is : (stateAt i (suc k)) .store ≡ landed ((stateAt i k) .store) (putsOf i k z a v)
+  store-is =
+      ap (λ (s : State). s .store) (state-next i k h)
+      ∙ ap (λ (x : Step). (stepped (mediaOf i) (stateAt i k) x) .store) e
+
+  pub told : Told i o k z a v
+  told =
+      record {
+        store = store-is;
+        places = written (i .lengths) _ z a v;
+        number = number-is;
+        most = rw number-is (four-land (i .lengths) _ z a v);
+        none = λ n. store-is ∙ none-lands ((stateAt i k) .store) (putsOf i k z a v) (sym number-is ∙ n);
+      }
+
+-- of two runs, whatever is stored and whatever their memories hold: equal lengths and one display mode give one number
+pub told-alike : (i j : Lent) (o p : Outcome) → o ≡ outcome i → p ≡ outcome j → o .number ≡ 0 → p .number ≡ 0
+    → LentBytes i → LentBytes j → (k : ℕ) → k < recordCount (i .sheet) → k < recordCount (j .sheet)
+    → (z : AccessSize) (a v u : ℕ) → stepOf (recordAt (i .sheet) k) ≡ Write z a v → stepOf (recordAt (j .sheet) k) ≡ Write z a u
+    → i .lengths ≡ j .lengths → modeOf (i .lengths) ((stateAt i k) .store) ≡ modeOf (j .lengths) ((stateAt j k) .store)
+    → hitsByte o k ≡ hitsByte p k
+told-alike i j o p e f m n b c k h l z a v u x y el em =
+    hits-are i o e m b k h z a v x
+    ∙ same-hits (mediaOf i) (mediaOf j) (stateAt i k) (stateAt j k) z a v u el em
+    ∙ sym (hits-are j p f n c k l z a u y)
