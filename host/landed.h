@@ -1,5 +1,5 @@
-/* The stores of a run that landed short: fewer bytes came into a memory than the store had to give. The run takes such a store
- * without a word, as the machine does, and what was to be kept is lost; so a person is told. */
+/* The stores of a run that landed short: fewer bytes came into a memory than the store had to give. The run refuses nothing
+ * for it, and what was to be kept is lost; so a person is told. */
 #ifndef HOST_LANDED_H
 #define HOST_LANDED_H
 

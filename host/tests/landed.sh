@@ -101,6 +101,17 @@ example_checks() {
     done
 }
 
+# What the hits of a WRITE are is said wherever the columns are.
+told_checks() {
+    run -h
+    for text in "$work/out" host/README.md host/btsrun.1 include/bts.h; do
+        check "$text tells the hits of a WRITE" grep -q 'bytes that landed in a memory' "$text"
+    done
+    for text in "$work/out" host/README.md host/btsrun.1; do
+        check "$text tells of standard error" grep -q 'a line on standard error' "$text"
+    done
+}
+
 # The indices run on through the pieces of a long listing: a byte to OAM at both sides of a piece's end, and as the last step.
 landed_piece_checks() {
     awk 'BEGIN {
@@ -152,4 +163,4 @@ silence_checks() {
 }
 
 every_pass="$every_pass landed_checks absent_checks count_checks silence_checks"
-once="$once example_checks landed_piece_checks order_checks"
+once="$once example_checks told_checks landed_piece_checks order_checks"

@@ -104,6 +104,9 @@ commented_marks() {
 marks_checks() {
     take_settings "rom=zeros4 bios=zeros8 store=16,16,256,16,16,16,3"
     commented_marks 3 $here/marks-short.lst $lent
+    take_settings "store=16,16,0,16,16,16,3"
+    printf '%s\n' 'WRITE 2 0x04000000 1 # D-6 D-81' 'WRITE 2 0x04000500 1 # -' 'READ 2 0x04000500 # D-2' >"$work/gaps"
+    commented_marks 2 "$work/gaps" $lent
     commented_marks 1 $here/marks.lst
     check "words of a mark" grep -q '^D-42  a branch, or any other change of the pc, is one fetch$' "$work/out"
     check "the lines in the end" is "$(tail -n 1 "$work/out" | tr ' ,' '\n\n' | grep '^D-')" \
