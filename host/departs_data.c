@@ -281,35 +281,13 @@ bool price_of_nothing(const struct seen *s) {
 
 /* ---- memories that are lent short */
 
-/* Where a byte of an area lies in its memory; 0, which no memory that is lent lies before, where it lies in none. */
-static size_t offset_in(enum area area, uint32_t address) {
-    uint32_t io = address & 0xFFFF;
-    uint32_t vram = address & 0x1FFFF;
-    switch (area) {
-    case AT_BIOS:
-        return address;
-    case AT_EWRAM:
-        return address % BTS_EWRAM_SIZE;
-    case AT_IWRAM:
-        return address % BTS_IWRAM_SIZE;
-    case AT_IO:
-        return io >= 0x800 && io < 0x804 ? io : address < IO_AT(0x400) ? io : 0;
-    case AT_VRAM:
-        return vram < BTS_VRAM_SIZE ? vram : vram - 0x8000;
-    default:
-        return address % BTS_PALETTE_SIZE; /* the palette, and OAM, which is as long */
-    }
-}
-
 /* ROM and SRAM have lines of their own. */
 static bool is_past(const struct seen *s, uint32_t address) {
-    static const int memory_of[] = {[AT_BIOS] = -1,  [AT_UNUSED] = -1, [AT_EWRAM] = EWRAM, [AT_IWRAM] = IWRAM, [AT_IO] = IO,
-                                    [AT_PALETTE] = PALETTE, [AT_VRAM] = VRAM, [AT_OAM] = OAM, [AT_ROM] = -1, [AT_SRAM] = -1};
-    enum area area = area_of(address);
-    if (area == AT_BIOS) {
-        return reads(s) && !is_closed(s) && offset_in(area, address) >= s->lengths.bios;
+    struct place place;
+    if (area_of(address) == AT_BIOS) {
+        return reads(s) && !is_closed(s) && address >= s->lengths.bios;
     }
-    return memory_of[area] >= 0 && offset_in(area, address) >= s->lengths.memories[memory_of[area]];
+    return place_of(address, &place) && place.memory != SRAM && place.offset >= s->lengths.memories[place.memory];
 }
 
 bool past_memory(const struct seen *s) {

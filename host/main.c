@@ -10,6 +10,7 @@
 #include "board.h"
 #include "bts.h"
 #include "files.h"
+#include "landed.h"
 #include "listing.h"
 #include "options.h"
 #include "runs.h"
@@ -199,7 +200,11 @@ static int price(const struct options *options, struct job *job) {
         return FAILED;
     }
     struct account account = {records, job->answers, report.index, report.total, &trace};
-    return print(options, &account);
+    int status = print(options, &account);
+    if (status == DONE) {
+        tell_short(&account, job->machine.lengths, options->table);
+    }
+    return status;
 }
 
 int main(int argc, char **argv) {

@@ -172,12 +172,14 @@ void print_help(void) {
           "  index   the step's number, from 0\n"
           "  cycles  what the step costs\n"
           "  value   READ: the data; FETCH: the halfword, 0 on a miss; THUMB, ARM: cycles with the cartridge bus free; else 0\n"
-          "  hits    halfwords that FETCH, THUMB or ARM took from the prefetch; else 0\n"
+          "  hits    FETCH, THUMB, ARM: halfwords taken from the prefetch; WRITE: bytes that landed in a memory; else 0\n"
           "  count   halfwords that stand in the prefetch after the step\n"
           "  force   1: the next opcode fetch is nonsequential\n"
           "\n"
           "The table of -v has the step too, the sum of the cycles up to it, and the lines of docs/DIFFERENCES.md that touch "
           "it.\n"
+          "If a store landed short (fewer bytes in a memory than it had to give), a line on standard error counts such stores; "
+          "with -v\nit is followed by each of them, with the reason.\n"
           "Nothing is written on an error. Exit status: 0 done; 1 refused by the run; 2 a bad line, option or file.\n",
           stdout);
 }

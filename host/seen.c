@@ -7,19 +7,6 @@ enum { OPCODE_BYTES_THUMB = 2, STORED_WAITS = 0x204, CONTROL = 0x800 };
 
 static const uint32_t io_page = 0x04000000;
 
-enum area area_of(uint32_t address) {
-    static const enum area by_page[16] = {AT_UNUSED, AT_UNUSED, AT_EWRAM, AT_IWRAM, AT_IO,  AT_PALETTE, AT_VRAM, AT_OAM,
-                                          AT_ROM,    AT_ROM,    AT_ROM,   AT_ROM,   AT_ROM, AT_ROM,     AT_SRAM, AT_SRAM};
-    if (address < BTS_BIOS_SIZE) {
-        return AT_BIOS;
-    }
-    return address >> 24 < 16 ? by_page[address >> 24] : AT_UNUSED;
-}
-
-int window_of(uint32_t address) {
-    return area_of(address) == AT_ROM ? (int)(address >> 25) - 4 : -1;
-}
-
 static bool is_data(const struct seen *seen) {
     return seen->kind == BTS_READ || seen->kind == BTS_WRITE;
 }

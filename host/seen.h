@@ -11,10 +11,8 @@
 #include <stdint.h>
 
 #include "bts.h"
+#include "map.h"
 #include "runs.h"
-
-/* The areas of the memory map. */
-enum area { AT_BIOS, AT_UNUSED, AT_EWRAM, AT_IWRAM, AT_IO, AT_PALETTE, AT_VRAM, AT_OAM, AT_ROM, AT_SRAM };
 
 /* How long the memories are. */
 struct lengths {
@@ -74,11 +72,6 @@ void trace_begin(struct trace *trace, const struct machine *machine);
 
 /* The next step of an accepted run. */
 void trace_step(struct trace *trace, const uint8_t *record, bts_answer answer, struct seen *seen);
-
-enum area area_of(uint32_t address);
-
-/* The ROM window of an address, from 0; -1 outside. */
-int window_of(uint32_t address);
 
 /* A READ or WRITE of which a byte lies from `low` to `high`. */
 bool meets(const struct seen *seen, uint32_t low, uint32_t high);

@@ -32,8 +32,8 @@
 /* The version of this header with its library: MAJOR rises when a caller must change, MINOR when something is added. (The version
  * of a sheet is BTS_VERSION.) */
 #define BTS_LIBRARY_MAJOR 1
-#define BTS_LIBRARY_MINOR 0
-#define BTS_LIBRARY_VERSION "1.0"
+#define BTS_LIBRARY_MINOR 1
+#define BTS_LIBRARY_VERSION "1.1"
 
 #include <stddef.h>
 #include <stdint.h>
@@ -180,12 +180,22 @@ enum {
 /* ---- the answers
  *
  * Answer: bytes 0-3 value, 4-7 cycles, 8 hits, 9 prefetch count, 10 force flag, 11 zero; the count and the flag are those after
- * the step. */
+ * the step.
+ *
+ * The hits of a WRITE, 0 to 4, are the bytes that landed in a memory, whatever stood there before. Nothing is refused for the
+ * others, so look: a WRITE whose hits are fewer than its bytes lost some. Its bytes are its size, and 2 for a byte to palette or
+ * VRAM (0x05 or 0x06 at the top of the address), which fills its halfword. What is lost:
+ *   - all that goes to BIOS, ROM, an unused area, a gap of I/O, or past the length of its memory; of a store across a memory's
+ *     end, the bytes behind the end;
+ *   - a byte to OAM, and a byte to object VRAM: from 0x10000 on, or from 0x14000 on in display modes 3 to 7 (I/O byte 0);
+ *   - all but one byte of a wide store to SRAM.
+ * So these hits depend on the memories' lengths and on the display mode, as no other hits and no cycles do: leave them out where
+ * runs over different memories are to agree. */
 
 typedef struct {
     uint32_t value;  /* READ: data; FETCH: halfword, 0 on a miss; INSTRUCTION: its cycles with the cartridge bus free; else 0 */
     uint32_t cycles;
-    uint8_t hits;    /* halfwords that FETCH or INSTRUCTION took from the prefetch; else 0 */
+    uint8_t hits;    /* FETCH, INSTRUCTION: halfwords taken from the prefetch; WRITE: bytes that landed in a memory; else 0 */
     uint8_t count;   /* halfwords that stand in the prefetch */
     uint8_t force;   /* 1: the next opcode fetch is nonsequential */
 } bts_answer;

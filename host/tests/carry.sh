@@ -58,7 +58,8 @@ bad_stores() {
 cut_checks() {
     rm -f "$files"/*
     for name in steps loop; do
-        good "$name in one" --board-out "$files/board-whole" --store-out "$files/store-whole" $here/$name.lst
+        lands $(shorts_in $here/$name.lst) "$name in one" --board-out "$files/board-whole" --store-out "$files/store-whole" \
+            $here/$name.lst
         grep -v total "$work/out" | cut -d' ' -f2- >"$work/whole"
         grep -i '^[[:space:]]*[a-z]' $here/$name.lst >"$work/lines"
         check "$name: every line is a step" is "$(wc -l <"$work/lines")" "$(wc -l <"$work/whole")"
@@ -73,11 +74,11 @@ cut_checks() {
 # LINES: the listing of $work/lines, cut behind so many lines
 cut_behind() {
     head -n "$1" "$work/lines" >"$work/part"
-    good "$name behind $1: before" --board-out "$files/board" --store-out "$files/store" "$work/part"
+    lands $(shorts_in "$work/part") "$name behind $1: before" --board-out "$files/board" --store-out "$files/store" "$work/part"
     grep -v total "$work/out" >"$work/answers"
     tail -n +$(($1 + 1)) "$work/lines" >"$work/part"
-    good "$name behind $1: after" --board "$files/board" --board-out "$files/board" --store "$files/store" \
-        --store-out "$files/store" "$work/part"
+    lands $(shorts_in "$work/part") "$name behind $1: after" --board "$files/board" --board-out "$files/board" \
+        --store "$files/store" --store-out "$files/store" "$work/part"
     grep -v total "$work/out" >>"$work/answers"
     check "$name behind $1: the answers" is "$(cut -d' ' -f2- "$work/answers")" "$(cat "$work/whole")"
     check "$name behind $1: the board" cmp -s "$files/board" "$files/board-whole"

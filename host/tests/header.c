@@ -1,5 +1,6 @@
 /* include/bts.h by itself, as C and as C++: the README's small sheet made with the header's helpers, over no BIOS and no ROM; the
- * names of the refusals; the readers of a board. The exit status is the number of the first thing that is wrong. */
+ * names of the refusals; the readers of a board; what lands of stores. The exit status is the number of the first thing that is
+ * wrong. */
 #include "bts.h"
 
 #include <string.h>
@@ -49,6 +50,27 @@ static int accepted_run(void) {
     return answers[2 * BTS_ANSWER_SIZE] == 0xEE && bts_board_waitcnt(board) == 0x4000 ? 0 : 5;
 }
 
+/* Stores to EWRAM, a palette of 3 bytes, OAM and an SRAM: their hits are the bytes that landed. */
+static int stores(void) {
+    static const uint32_t writes[][3] = {
+        {4, 0x02000000, 4}, {1, 0x05000001, 2}, {1, 0x05000003, 1}, {1, 0x07000000, 0}, {2, 0x07000000, 2}, {4, 0x0E000000, 1},
+    };
+    enum { COUNT = sizeof writes / sizeof writes[0] };
+    uint8_t sheet[BTS_HEADER_SIZE + COUNT * BTS_RECORD_SIZE], board[BTS_BOARD_SIZE] = {0}, store[15] = {0};
+    uint8_t answers[COUNT * BTS_ANSWER_SIZE];
+    bts_put_header(sheet, COUNT);
+    for (size_t k = 0; k < COUNT; k++) {
+        bts_put_record(sheet, k, BTS_WRITE, BTS_CAST(uint8_t, writes[k][0]), 0, writes[k][1], 0x5A);
+    }
+    bts_report report = bts_run(sheet, sizeof sheet, board, sizeof board, store, sizeof store, bts_bytes(NULL), 0,
+                                bts_bytes(NULL), 0, answers, sizeof answers, 4, 0, 0, 3, 0, 4, 4);
+    size_t agreed = 0;
+    while (agreed < COUNT && bts_answer_at(answers, agreed).hits == writes[agreed][2]) {
+        agreed++;
+    }
+    return report.number == BTS_OK && agreed == COUNT ? 0 : 12;
+}
+
 static int names(void) {
     if (strcmp(BTS_LIBRARY_VERSION, TEXT(BTS_LIBRARY_MAJOR) "." TEXT(BTS_LIBRARY_MINOR)) != 0) {
         return 6;
@@ -81,7 +103,7 @@ static int readers(void) {
 }
 
 int main(void) {
-    int results[] = {refused_run(), accepted_run(), names(), readers()};
+    int results[] = {refused_run(), accepted_run(), names(), readers(), stores()};
     int first = 0;
     for (size_t i = 0; i < sizeof results / sizeof results[0]; i++) {
         first = first != 0 ? first : results[i];

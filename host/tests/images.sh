@@ -9,14 +9,14 @@ image_checks() {
     zeros "$work/sram" 32767
     printf 'A' | cat - "$work/sram" >"$work/chip"
     printf 'READ 1 0x0E008000\nWRITE 1 0x0E008000 7\nWRITE 2 0x0E000001 0x1234\n' >"$work/backup"
-    good "an SRAM of 32,768" --sram "$work/chip" --sram-out "$files/chip" "$work/backup"
+    lands 2 2 "an SRAM of 32,768" --sram "$work/chip" --sram-out "$files/chip" "$work/backup"
     check "a load wraps" is "$(head -n 1 "$work/out")" "0 5 65 0 0 0"
     printf 'A\022' >"$work/expected"
     head -c 32766 "$work/sram" >>"$work/expected"
     check "the SRAM afterwards" cmp -s "$files/chip" "$work/expected"
-    good "no SRAM named" --sram-out "$files/chip" "$work/backup"
+    lands 1 2 "no SRAM named" --sram-out "$files/chip" "$work/backup"
     check "65,536 bytes" is "$(wc -c <"$files/chip" | tr -d ' ')" 65536
-    good "an empty SRAM" --sram /dev/null --sram-out "$files/chip" "$work/backup"
+    lands 2 2 "an empty SRAM" --sram /dev/null --sram-out "$files/chip" "$work/backup"
     check "no bytes" empty "$files/chip"
     for image in "bios 16384" "rom 33554432" "sram 65536"; do
         zeros "$work/image" "${image#* }"
@@ -30,15 +30,15 @@ image_checks() {
 # A listing in one, and in two parts with board and SRAM handed on in the same files: the same answers.
 board_checks() {
     grep -v '^;' $here/steps.lst | sed 1,2d >"$work/whole"
-    good "in one" --board-out "$files/board-whole" --sram-out "$files/sram-whole" "$work/whole"
+    lands 1 2 "in one" --board-out "$files/board-whole" --sram-out "$files/sram-whole" "$work/whole"
     grep -v total "$work/out" | cut -d' ' -f2- >"$work/answers"
     zeros "$files/board" 72
     zeros "$files/sram" 65536
     : >"$work/parts"
     for lines in 1,15p '16,$p'; do
         sed -n "$lines" "$work/whole" >"$work/part"
-        good "lines $lines" --board "$files/board" --board-out "$files/board" --sram "$files/sram" --sram-out "$files/sram" \
-            "$work/part"
+        lands $(shorts_in "$work/part") "lines $lines" --board "$files/board" --board-out "$files/board" \
+            --sram "$files/sram" --sram-out "$files/sram" "$work/part"
         grep -v total "$work/out" | cut -d' ' -f2- >>"$work/parts"
     done
     check "the answers" cmp -s "$work/parts" "$work/answers"

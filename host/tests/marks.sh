@@ -90,11 +90,12 @@ sentence() {
     check "the last line: $(tail -n 1 "$work/out")" is "$(tail -n 1 "$work/out")" "$sentence"
 }
 
-# LISTING OPTIONS..: its steps have the marks of their comments
+# SHORT LISTING OPTIONS..: its steps have the marks of their comments, and so many of its stores land short
 commented_marks() {
-    listing=$1
-    shift
-    good "$listing" -v "$@" "$listing"
+    short=$1
+    listing=$2
+    shift 2
+    lands "$short" "$(grep -c '^WRITE' "$listing")" "$listing" -v "$@" "$listing"
     check "the marks of $listing" is "$(shown_marks)" \
         "$(sed -n 's/^[A-Z].*# //p' "$listing" | tr '\n' ';' | sed 's/;$//; s/;/; /g')"
 }
@@ -102,8 +103,11 @@ commented_marks() {
 # Behind the total stand words for each mark, and the figure.
 marks_checks() {
     take_settings "rom=zeros4 bios=zeros8 store=16,16,256,16,16,16,3"
-    commented_marks $here/marks-short.lst $lent
-    commented_marks $here/marks.lst
+    commented_marks 3 $here/marks-short.lst $lent
+    take_settings "store=16,16,0,16,16,16,3"
+    printf '%s\n' 'WRITE 2 0x04000000 1 # D-6 D-81' 'WRITE 2 0x04000500 1 # -' 'READ 2 0x04000500 # D-2' >"$work/gaps"
+    commented_marks 2 "$work/gaps" $lent
+    commented_marks 1 $here/marks.lst
     check "words of a mark" grep -q '^D-42  a branch, or any other change of the pc, is one fetch$' "$work/out"
     check "the lines in the end" is "$(tail -n 1 "$work/out" | tr ' ,' '\n\n' | grep '^D-')" \
         "$(sed -n 's/^\(D-[0-9]*\) .*/\1/p' "$work/out")"
