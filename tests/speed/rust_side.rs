@@ -2,8 +2,12 @@
 //! Nothing is allocated or copied in a run but the 72 bytes of the board: the memories are the bus's own `Vec`s, set up before.
 //! It does the same work as `bts_run`: it examines header, board and records, runs, and writes answers and board.
 
+use crate::bus::mirror::{
+    ewram_offset, io_offset, iwram_offset, oam_offset, palette_offset, sram_window_offset, vram_offset,
+};
 use crate::bus::prefetch::PrefetchParts;
 use crate::bus::region::{decode, Region};
+use crate::bus::video::obj_vram_base;
 use crate::bus::wait::{AccessKind, AccessSize, RomWindow, WaitTables};
 use crate::bus::{Bus, CpuMem, OpenBusState, PrefetchBuffer, WaitCnt};
 use crate::bytes::*;
@@ -167,7 +171,8 @@ impl Machine {
             }
             WRITE => {
                 self.write(r.size(), r.address, r.value);
-                Done { value: 0, cycles: self.data_price(r.size(), r.address), hits: 0, idle: 0 }
+                let hits = self.landed(r.size(), r.address);
+                Done { value: 0, cycles: self.data_price(r.size(), r.address), hits, idle: 0 }
             }
             WAITCNT => {
                 self.waitcnt.write(r.value as u16);
@@ -211,6 +216,33 @@ impl Machine {
             1 => self.bus.write8(address, value as u8),
             2 => self.bus.write16(address, value as u16),
             _ => self.bus.write32(address, value),
+        }
+    }
+
+    /// The number of memory bytes that a store writes (document 02, W-201), which the Rust's store doesn't tell. Those of a wide
+    /// store, and those of the halfword that a byte store to video memory fills, are counted from the lowered place up to the
+    /// memory's end.
+    #[inline(always)]
+    fn landed(&self, size: u8, address: u32) -> u8 {
+        let b = &self.bus;
+        let up_to = |end: usize, place: usize, width: usize| end.saturating_sub(place & !(width - 1)).min(width) as u8;
+        let width = usize::from(size);
+        match decode(address) {
+            Region::Ewram => up_to(b.ewram.len(), ewram_offset(address), width),
+            Region::Iwram => up_to(b.iwram.len(), iwram_offset(address), width),
+            Region::Io => io_offset(address).map_or(0, |place| up_to(b.io.len(), place, width)),
+            Region::Palette => up_to(b.palette.len(), palette_offset(address), width.max(2)),
+            Region::Vram => {
+                let place = vram_offset(address);
+                let mode = b.io.first().copied().unwrap_or(0) & 7;
+                if size == 1 && place as u32 >= obj_vram_base(mode) {
+                    return 0;
+                }
+                up_to(b.vram.len(), place, width.max(2))
+            }
+            Region::Oam if size > 1 => up_to(b.oam.len(), oam_offset(address), width),
+            Region::GamePakSram => u8::from(sram_window_offset(address) < b.sram.len()),
+            _ => 0,
         }
     }
 
