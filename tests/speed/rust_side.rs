@@ -1,6 +1,7 @@
 //! The Rust's side: document 01's run done by the Rust's own functions, as leanly as it can be called.
 //! Nothing is allocated or copied in a run but the 72 bytes of the board: the memories are the bus's own `Vec`s, set up before.
-//! It does the same work as `bts_run`: it examines header, board and records, runs, and writes answers and board.
+//! It does the same work as `bts_run`: it examines header, board and records, runs, counts the bytes that each store writes, and
+//! writes answers and board.
 
 use crate::bus::mirror::{io_offset, vram_offset};
 use crate::bus::prefetch::PrefetchParts;
@@ -169,6 +170,7 @@ impl Machine {
                 Done { value, cycles: self.data_price(r.size(), r.address), hits: 0, idle: 0 }
             }
             WRITE => {
+                // before the store, which is quicker than after it; the mode by which a byte lands in VRAM isn't in VRAM
                 let hits = self.landed(r.size(), r.address);
                 self.write(r.size(), r.address, r.value);
                 Done { value: 0, cycles: self.data_price(r.size(), r.address), hits, idle: 0 }
