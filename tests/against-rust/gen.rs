@@ -171,8 +171,8 @@ pub fn accepted(rng: &mut Rng, large: usize) -> Plan {
     plan
 }
 
-/// Two accepted runs with alike sheets and alike boards, all else different (demand 3); in every second pair but for the lengths
-/// and the display modes, so that what lands must agree too (W-201).
+/// Two accepted runs with alike sheets and alike boards, all else different (demand 3), but in half of the pairs the lengths and
+/// the display modes, so that what lands must agree too (W-201).
 pub fn pair(seed: u64) -> (Case, Case) {
     let mut rng = Rng::new(seed);
     let first = accepted(&mut rng, 2);
