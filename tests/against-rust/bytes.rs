@@ -71,6 +71,9 @@ pub fn u64_at(b: &[u8], at: usize) -> u64 {
 
 // ---- store ----
 
+/// The place of I/O among the seven memories.
+pub const IO: usize = 2;
+
 /// The seven memories of a store, in its order; the lengths add up to its own.
 pub fn parts_of(store: &[u8], lengths: [usize; 7]) -> [&[u8]; 7] {
     let mut rest = store;

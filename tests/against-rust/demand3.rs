@@ -2,13 +2,21 @@
 
 use crate::bytes::*;
 
-/// Where two runs with alike sheets and boards differ in answer bytes 4–10 or in the total.
-pub fn pair_difference(first: &Case, a: &Outcome, b: &Outcome) -> Option<String> {
-    let records = records_of(&first.sheet);
-    for k in 0..records.len() {
-        let columns = ANSWER * k + 4..ANSWER * k + 11;
-        if a.answers[columns.clone()] != b.answers[columns] {
-            return Some(format!("two alike runs differ in bytes 4–10 of step {k}, {:X?}", records[k]));
+/// Where two runs with alike sheets and boards differ in answer bytes 4–7, 9 or 10, in byte 8 of any step but WRITE, or in the
+/// total. The hits of a WRITE, the bytes that landed, are compared only where W-201 makes them equal.
+pub fn pair_difference(first: &Case, second: &Case, a: &Outcome, b: &Outcome) -> Option<String> {
+    let landings = same_landings(first, second);
+    for (k, record) in records_of(&first.sheet).iter().enumerate() {
+        let columns = |outcome: &Outcome| {
+            let answer = Answer::of(&outcome.answers[ANSWER * k..]);
+            let hits = (landings || record.kind != WRITE).then_some(answer.hits);
+            (answer.cycles, hits, answer.count, answer.force)
+        };
+        let (ours, other) = (columns(a), columns(b));
+        if ours != other {
+            return Some(format!(
+                "two alike runs give step {k}, {record:X?}, cycles, hits, count, flag {ours:?} and {other:?}"
+            ));
         }
     }
     let (total, other) = (a.report.total, b.report.total);
@@ -16,6 +24,22 @@ pub fn pair_difference(first: &Case, a: &Outcome, b: &Outcome) -> Option<String>
         return Some(format!("two alike runs have totals {total} and {other}"));
     }
     None
+}
+
+/// Whether the same bytes of both stores must be written at each WRITE: the number depends on the lengths and the display mode
+/// alone, and the mode on I/O byte 0 and on what is stored there.
+fn same_landings(first: &Case, second: &Case) -> bool {
+    let modes = |case: &Case| -> Vec<u32> {
+        let lent = parts_of(&case.store, case.lengths)[IO].first().map(|&byte| u32::from(byte));
+        let stored = records_of(&case.sheet).into_iter().filter(stores_mode).map(|r| r.value);
+        lent.into_iter().chain(stored).map(|byte| byte % 8).collect()
+    };
+    first.lengths == second.lengths && modes(first) == modes(second)
+}
+
+/// A WRITE to I/O byte 0, which has the display mode.
+pub fn stores_mode(record: &Record) -> bool {
+    record.kind == WRITE && record.address & !(u32::from(record.size) - 1) == 0x0400_0000
 }
 
 /// Demand 3's limits: I + A + D ≤ total ≤ 19·I + 18·A + D in an accepted run.

@@ -2,6 +2,7 @@
 
 use crate::boards;
 use crate::bytes::*;
+use crate::demand3::stores_mode;
 use crate::machine::{BIOS_SIZE, ROM_WINDOW_SIZE, SIZES};
 use crate::refusals;
 pub use crate::rng::Rng;
@@ -170,21 +171,32 @@ pub fn accepted(rng: &mut Rng, large: usize) -> Plan {
     plan
 }
 
-/// Two accepted runs with alike sheets and alike boards, all else different (demand 3).
+/// Two accepted runs with alike sheets and alike boards, all else different (demand 3), but in half of the pairs the lengths and
+/// the display modes, so that what lands must agree too (W-201).
 pub fn pair(seed: u64) -> (Case, Case) {
     let mut rng = Rng::new(seed);
     let first = accepted(&mut rng, 2);
-    let memories = Memories::random(&mut rng, 2);
+    let mut memories = Memories::random(&mut rng, 2);
+    let same = rng.percent(50);
+    if same {
+        memories.lengths = first.lengths;
+    }
     let records: Vec<Record> =
-        records_of(&first.sheet).into_iter().map(|r| alike_record(&mut rng, r)).collect();
+        records_of(&first.sheet).into_iter().map(|r| alike_record(&mut rng, r, same)).collect();
     let board = alike_board(&mut rng, Board::of(&first.board));
     let second = Plan::accepted(board, &memories, &records);
-    (first.random_case(&mut rng), second.random_case(&mut rng))
+    let (first, mut second) = (first.random_case(&mut rng), second.random_case(&mut rng));
+    if same && first.lengths[IO] > 0 {
+        let mode: usize = first.lengths[..IO].iter().sum();
+        second.store[mode] = first.store[mode];
+    }
+    (first, second)
 }
 
-/// The record with another value, if it is a WRITE or a LATCH.
-fn alike_record(rng: &mut Rng, r: Record) -> Record {
+/// The record with another value, if it is a LATCH or a WRITE; the display mode's may be kept.
+fn alike_record(rng: &mut Rng, r: Record, keep_mode: bool) -> Record {
     match r.kind {
+        WRITE if keep_mode && stores_mode(&r) => r,
         WRITE | LATCH => Record { value: rng.u32(), ..r },
         _ => r,
     }

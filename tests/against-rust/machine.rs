@@ -1,7 +1,9 @@
 //! Document 01's run, done by calling the unchanged Rust: this is what the library is held against.
-//! The refusals, the order of a step's calls and the data price are document 01's own ("added").
+//! The refusals, the order of a step's calls and the data price are document 01's own ("added"); the hits of a WRITE, the
+//! bytes that landed, are document 02's (W-201), and landed.rs has them from the Rust's store.
 
 use crate::bytes::*;
+use crate::landed::Probes;
 use graycart::bus::prefetch::PrefetchParts;
 use graycart::bus::region::{
     decode, Region, EWRAM_SIZE, IO_SIZE, IWRAM_SIZE, OAM_SIZE, PALETTE_SIZE, SRAM_WINDOW_SIZE,
@@ -37,6 +39,9 @@ pub fn run(case: &Case) -> Outcome {
         let answer = machine.step(record);
         total += u64::from(answer.cycles);
         answers[ANSWER * k..ANSWER * (k + 1)].copy_from_slice(&answer.bytes());
+    }
+    if let Some(probes) = machine.probes.take() {
+        probes.check_rest();
     }
     Outcome {
         report: Report { number: 0, index: records.len() as u32, total },
@@ -88,6 +93,8 @@ fn lengths_refused(case: &Case) -> bool {
 struct Machine {
     bus: Bus,
     waitcnt: WaitCnt,
+    /// Made at the first WRITE, since many cases have none.
+    probes: Option<Probes>,
 }
 
 impl Machine {
@@ -116,7 +123,7 @@ impl Machine {
             oam_write_count: board.oam,
             palette_write_count: board.palette,
         };
-        Machine { bus, waitcnt }
+        Machine { bus, waitcnt, probes: None }
     }
 
     fn board(&self) -> Board {
@@ -159,7 +166,7 @@ impl Machine {
                 cycles = self.data_price(r.size, r.address);
             }
             WRITE => {
-                self.write(r.size, r.address, r.value);
+                hits = self.write(r.size, r.address, r.value);
                 cycles = self.data_price(r.size, r.address);
             }
             WAITCNT => {
@@ -199,12 +206,10 @@ impl Machine {
         }
     }
 
-    fn write(&mut self, size: u8, address: u32, value: u32) {
-        match size {
-            1 => self.bus.write8(address, value as u8),
-            2 => self.bus.write16(address, value as u16),
-            _ => self.bus.write32(address, value),
-        }
+    /// The store; the number of memory bytes that it wrote.
+    fn write(&mut self, size: u8, address: u32, value: u32) -> u8 {
+        let probes = self.probes.get_or_insert_with(|| Probes::of(&self.bus));
+        probes.store(&mut self.bus, size, address, value)
     }
 
     /// `tick_idle`, its reader being the bus's halfword read.

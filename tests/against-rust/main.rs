@@ -8,6 +8,8 @@ mod demand3;
 mod differences;
 mod figures;
 mod gen;
+mod landed;
+mod landings;
 mod machine;
 mod notation;
 mod refusals;
@@ -111,6 +113,12 @@ impl Tally {
         }
     }
 
+    fn landings(&mut self) {
+        for (i, (before, stores, claims)) in landings::LANDINGS.iter().enumerate() {
+            self.line(&format!("landing:{i}"), &landings::input(before, stores), claims);
+        }
+    }
+
     fn differences_file(&mut self, path: &str) {
         let text = std::fs::read_to_string(path).map_err(|e| e.to_string());
         match text.and_then(|text| differences::lines_of(&text)) {
@@ -167,7 +175,7 @@ impl Tally {
         let b = self.case(&name, &second, Some(0));
         self.pairs += 1;
         let (Some(a), Some(b)) = (a, b) else { return };
-        if let Some(what) = demand3::pair_difference(&first, &a, &b) {
+        if let Some(what) = demand3::pair_difference(&first, &second, &a, &b) {
             self.differ(&name, &what);
         }
     }
@@ -204,7 +212,7 @@ const USAGE: &str = "usage: run [--names] [SECONDS] | SECONDS --from SEED | --ca
 --names: name each case before it is run
 SECONDS: for the random part, 100 if not given
 --from: the random part alone, from this seed on
-NAME: random:SEED (or SEED alone), pair:SEED, sweep:N, sample:N, figure:N, D-N.K";
+NAME: random:SEED (or SEED alone), pair:SEED, sweep:N, sample:N, figure:N, landing:N, D-N.K";
 
 fn order(words: &[String]) -> Option<Order> {
     let words: Vec<&str> = words.iter().map(String::as_str).collect();
@@ -246,6 +254,9 @@ fn compare_all(tally: &mut Tally, seconds: u64) {
     tally.figures();
     told(tally, &format!("the figures ({} values)", tally.claims));
     tally.claims = 0;
+    tally.landings();
+    told(tally, &format!("the landings ({} values)", tally.claims));
+    tally.claims = 0;
     tally.differences_file(DIFFERENCES);
     told(tally, &format!("{DIFFERENCES} ({} values)", tally.claims));
     tally.sample();
@@ -282,6 +293,7 @@ fn one_case(tally: &mut Tally, name: &str) {
         Some(("sweep", _)) => tally.sweeps(),
         Some(("sample", _)) => tally.sample(),
         Some(("figure", _)) => tally.figures(),
+        Some(("landing", _)) => tally.landings(),
         _ => tally.differences_file(DIFFERENCES),
     }
 }

@@ -166,9 +166,12 @@ fn without_brackets(text: &str) -> String {
 
 enum Claim {
     Waitcnt(u64),
-    Counter(u64),
+    VramCounter(u64),
+    OamCounter(u64),
+    PaletteCounter(u64),
     Value(u64),
-    Hits(u64),
+    /// Those of the last steps.
+    Hits(Vec<u64>),
     Count(u64),
     Flag(u64),
     /// Those of the last steps.
@@ -185,20 +188,19 @@ impl Claim {
     fn first(words: &[&str]) -> Option<(Claim, usize)> {
         Some(match words {
             ["board", "WAITCNT", v, ..] => (Claim::Waitcnt(number(v)?), 3),
-            ["VRAM", "counter", v, ..] => (Claim::Counter(number(v)?), 3),
+            ["VRAM", "counter", v, ..] => (Claim::VramCounter(number(v)?), 3),
+            ["OAM", "counter", v, ..] => (Claim::OamCounter(number(v)?), 3),
+            ["palette", "counter", v, ..] => (Claim::PaletteCounter(number(v)?), 3),
             ["value", v, ..] => (Claim::Value(number(v)?), 2),
-            ["hits", v, ..] => (Claim::Hits(number(v)?), 2),
             ["count", v, ..] => (Claim::Count(number(v)?), 2),
             ["flag", v, ..] => (Claim::Flag(number(v)?), 2),
             ["total", v, ..] => (Claim::Total(number(v)?), 2),
             ["changed", v, ..] => (Claim::Changed(number(v)?), 2),
-            ["cycles", list @ ..] => {
-                let cycles: Vec<u64> = list.iter().map_while(|w| number(w)).collect();
-                let used = 1 + cycles.len();
-                if used == 1 {
-                    return None;
-                }
-                (Claim::Cycles(cycles), used)
+            [what @ ("cycles" | "hits"), first, rest @ ..] => {
+                let mut list = vec![number(first)?];
+                list.extend(rest.iter().map_while(|w| number(w)));
+                let used = 1 + list.len();
+                (if *what == "hits" { Claim::Hits(list) } else { Claim::Cycles(list) }, used)
             }
             [v, "cycle" | "cycles", ..] => (Claim::Cycles(vec![number(v)?]), 2),
             [memory, "byte", at, v, ..] => {
@@ -215,17 +217,15 @@ impl Claim {
         let board = Board::of(&outcome.board);
         match self {
             Claim::Waitcnt(v) => same("board WAITCNT", *v, board.waitcnt.into()),
-            Claim::Counter(v) => same("VRAM counter", *v, board.vram),
+            Claim::VramCounter(v) => same("VRAM counter", *v, board.vram),
+            Claim::OamCounter(v) => same("OAM counter", *v, board.oam),
+            Claim::PaletteCounter(v) => same("palette counter", *v, board.palette),
             Claim::Value(v) => same("value", *v, last.value.into()),
-            Claim::Hits(v) => same("hits", *v, last.hits.into()),
+            Claim::Hits(list) => same_list("hits", list, &answers, |a| a.hits.into()),
             Claim::Count(v) => same("count", *v, last.count.into()),
             Claim::Flag(v) => same("flag", *v, last.force.into()),
             Claim::Total(v) => same("total", *v, outcome.report.total),
-            Claim::Cycles(list) => {
-                let skipped = answers.len().checked_sub(list.len()).ok_or("more cycles than steps")?;
-                let mut steps = list.iter().zip(&answers[skipped..]);
-                steps.try_for_each(|(v, a)| same("cycles", *v, a.cycles.into()))
-            }
+            Claim::Cycles(list) => same_list("cycles", list, &answers, |a| a.cycles.into()),
             Claim::Byte(which, at, v) => {
                 let start: usize = case.lengths[..*which].iter().sum();
                 let byte = outcome.store[start + *at as usize];
@@ -237,6 +237,12 @@ impl Claim {
             }
         }
     }
+}
+
+/// The numbers of the last steps.
+fn same_list(what: &str, list: &[u64], answers: &[Answer], of: impl Fn(&Answer) -> u64) -> Result<(), String> {
+    let skipped = answers.len().checked_sub(list.len()).ok_or(format!("more {what} than steps"))?;
+    list.iter().zip(&answers[skipped..]).try_for_each(|(v, a)| same(what, *v, of(a)))
 }
 
 fn same(what: &str, claimed: u64, given: u64) -> Result<(), String> {

@@ -9,7 +9,7 @@ use crate::machine::{BIOS_SIZE, SIZES};
 use crate::notation;
 use crate::refusals;
 use crate::steps::Steps;
-use crate::sweeps::{edge_plan, fill, one_of_each};
+use crate::sweeps::{edge_plan, end_plan, fill, one_of_each, ENDS};
 
 /// The most that a case of the sample lends, so that a replaying program can have fixed buffers:
 /// sheet, board, store, BIOS, ROM, answers.
@@ -34,6 +34,7 @@ pub fn plans() -> Vec<Plan> {
     faulty_records(&mut plans);
     list_lengths(&mut plans);
     full_memories(&mut plans);
+    memory_ends(&mut plans);
     plans
 }
 
@@ -218,6 +219,14 @@ fn full_memories(plans: &mut Vec<Plan>) {
         }
         plan.meant = Some(4);
         plans.push(plan);
+    }
+}
+
+/// Stores across the end of each memory, of each length modulo 4, in modes 0–3 and 7, 4, 5, 2: what of them lands (W-201).
+fn memory_ends(plans: &mut Vec<Plan>) {
+    for (more, [mode, with_objects]) in [[0, 7], [1, 4], [2, 5], [3, 2]].into_iter().enumerate() {
+        plans.push(end_plan(mode, ENDS[0], more));
+        plans.push(end_plan(with_objects, ENDS[1 + more % 2], more));
     }
 }
 

@@ -21,6 +21,7 @@ pub fn for_each(visit: &mut dyn FnMut(Plan)) {
     regions(visit);
     edges(visit);
     memory_lengths(visit);
+    ends(visit);
 }
 
 fn small() -> Memories {
@@ -319,4 +320,44 @@ fn around(base: u32, length: usize, size: usize) -> Vec<Record> {
         }
     }
     records
+}
+
+/// Stores of all sizes across the end of each memory, which is of each length modulo 4, in each display mode (W-201).
+fn ends(visit: &mut dyn FnMut(Plan)) {
+    for mode in 0..8 {
+        for more in 0..4 {
+            ENDS.iter().for_each(|&lengths| visit(end_plan(mode, lengths, more)));
+            visit(end_plan(mode, SIZES.map(|size| size - 4), more + 1));
+        }
+    }
+}
+
+/// Lengths to which 0 to 3 are added: all short; then VRAM up to where the objects begin, in modes 0–2 and in the others, and
+/// I/O up to the end of its registers and to that of the word at 0x800.
+pub const ENDS: [[usize; 7]; 3] = [
+    [40, 32, 8, 16, 24, 8, 12],
+    [4, 0, 0x3FC, 0, 0x1_0000, 4, 0x2000],
+    [0, 4, 0x800, 0x3FC, 0x1_4000, 0x3FC, 0x8000],
+];
+
+/// The start of each memory, by its number in the store, and of a mirror of it; VRAM's last 32 KiB are there twice.
+const STARTS: [(usize, u32); 15] = [
+    (0, 0x0200_0000), (0, 0x02FC_0000), (1, 0x0300_0000), (1, 0x03FF_8000), (2, 0x0400_0000), (2, 0x04FF_0000),
+    (3, 0x0500_0000), (3, 0x05FF_FC00), (4, 0x0600_0000), (4, 0x0600_8000), (4, 0x06FE_0000),
+    (5, 0x0700_0000), (5, 0x07FF_FC00), (6, 0x0E00_0000), (6, 0x0FFF_0000),
+];
+
+/// Stores from 4 below to 3 above the end of each memory and of a mirror of it.
+pub fn end_plan(mode: u32, lengths: [usize; 7], more: usize) -> Plan {
+    let memories = Memories { lengths: lengths.map(|length| length + more), bios: 3 + more, rom: 5 + more };
+    let mut rng = Rng::new(u64::from(mode));
+    let mut records = Vec::new();
+    for (which, start) in STARTS {
+        for by in 0..8 {
+            let address = (start + memories.lengths[which] as u32 + by).wrapping_sub(4);
+            records.push(Record::new(WRITE, 1, 0x0400_0000, mode));
+            records.extend([1, 2, 4].map(|size| Record::new(WRITE, size, address, rng.u32())));
+        }
+    }
+    Plan::accepted(Board::default(), &memories, &records)
 }

@@ -1,9 +1,12 @@
 //! The Rust's side: document 01's run done by the Rust's own functions, as leanly as it can be called.
 //! Nothing is allocated or copied in a run but the 72 bytes of the board: the memories are the bus's own `Vec`s, set up before.
-//! It does the same work as `bts_run`: it examines header, board and records, runs, and writes answers and board.
+//! It does the same work as `bts_run`: it examines header, board and records, runs, counts the bytes that each store writes, and
+//! writes answers and board.
 
+use crate::bus::mirror::{io_offset, vram_offset};
 use crate::bus::prefetch::PrefetchParts;
 use crate::bus::region::{decode, Region};
+use crate::bus::video::obj_vram_base;
 use crate::bus::wait::{AccessKind, AccessSize, RomWindow, WaitTables};
 use crate::bus::{Bus, CpuMem, OpenBusState, PrefetchBuffer, WaitCnt};
 use crate::bytes::*;
@@ -11,12 +14,13 @@ use crate::cpu::timing::{price_insn, TimingInput};
 use crate::cpu::IsaState;
 use crate::memories::{Memories, SIZES};
 
-/// The bus; beside it the prefetch, so that `tick_idle` can have it and the bus's read at once without a copy; and WAITCNT,
-/// which the bus doesn't hold.
+/// The bus; beside it the prefetch, so that `tick_idle` can have it and the bus's read at once without a copy; WAITCNT, which
+/// the bus doesn't hold; and what stores land, by the address's top byte, the last for all from 16 on.
 pub struct Machine {
     bus: Bus,
     prefetch: PrefetchBuffer,
     waitcnt: WaitCnt,
+    landings: [Landing; 17],
 }
 
 /// What a step gives, but for the count and the force flag, which are read off afterwards; and its idle cycles, so that the
@@ -46,7 +50,7 @@ impl Machine {
             rom: m.rom.clone(),
             ..Bus::new()
         };
-        Machine { bus, prefetch: PrefetchBuffer::new(), waitcnt: WaitCnt::power_on() }
+        Machine { landings: landings(m.lengths), bus, prefetch: PrefetchBuffer::new(), waitcnt: WaitCnt::power_on() }
     }
 
     /// The seven memories of the store, in its order.
@@ -166,8 +170,10 @@ impl Machine {
                 Done { value, cycles: self.data_price(r.size(), r.address), hits: 0, idle: 0 }
             }
             WRITE => {
+                // before the store, which is quicker than after it; the mode by which a byte lands in VRAM isn't in VRAM
+                let hits = self.landed(r.size(), r.address);
                 self.write(r.size(), r.address, r.value);
-                Done { value: 0, cycles: self.data_price(r.size(), r.address), hits: 0, idle: 0 }
+                Done { value: 0, cycles: self.data_price(r.size(), r.address), hits, idle: 0 }
             }
             WAITCNT => {
                 self.waitcnt.write(r.value as u16);
@@ -212,6 +218,25 @@ impl Machine {
             2 => self.bus.write16(address, value as u16),
             _ => self.bus.write32(address, value),
         }
+    }
+
+    /// The number of memory bytes that a store writes (document 02, W-201), which the Rust's store doesn't tell: those from the
+    /// lowered place up to the memory's end, but no more than the store's width there.
+    #[inline(always)]
+    fn landed(&self, size: u8, address: u32) -> u8 {
+        let top = (address >> 24).min(16);
+        let landing = &self.landings[top as usize];
+        let width = landing.widths[usize::from(size & 7)];
+        let place = match top {
+            4 => io_offset(address).map_or(NOWHERE, |place| place as u32),
+            6 => {
+                let place = vram_offset(address) as u32;
+                let mode = self.bus.io.first().copied().unwrap_or(0) & 7;
+                if size == 1 && place >= obj_vram_base(mode) { NOWHERE } else { place }
+            }
+            _ => address & landing.mask,
+        };
+        landing.end.saturating_sub(place & 0u32.wrapping_sub(width)).min(width) as u8
     }
 
     /// `tick_idle`, its reader being the bus's halfword read.
@@ -281,6 +306,37 @@ impl Machine {
             _ => WaitTables::fixed_fast_cycles(access),
         }
     }
+}
+
+// ---- what stores land ----
+
+/// What the stores of a top byte land: looked up, since another jump by the region costs more.
+#[derive(Clone, Copy, Default)]
+struct Landing {
+    /// The bits of the address that are the place. I/O and VRAM have rules of their own.
+    mask: u32,
+    /// The memory's length.
+    end: u32,
+    /// By size, how many bytes a store writes inside the memory.
+    widths: [u32; 8],
+}
+
+/// A place past the end of every memory.
+const NOWHERE: u32 = u32::MAX;
+
+/// Those of the memories, ROM and BIOS having none: a byte fills its halfword in palette and VRAM and is dropped in OAM, and SRAM
+/// takes one byte of each store.
+fn landings(lengths: [usize; 7]) -> [Landing; 17] {
+    let mut landings = [Landing::default(); 17];
+    let tops: [(usize, usize, [u32; 3]); 8] = [
+        (2, 0, [1, 2, 4]), (3, 1, [1, 2, 4]), (4, 2, [1, 2, 4]), (5, 3, [2, 2, 4]), (6, 4, [2, 2, 4]), (7, 5, [0, 2, 4]),
+        (14, 6, [1, 1, 1]), (15, 6, [1, 1, 1]),
+    ];
+    for (top, which, [byte, half, word]) in tops {
+        let widths = [0, byte, half, 0, word, 0, 0, 0];
+        landings[top] = Landing { mask: SIZES[which] as u32 - 1, end: lengths[which] as u32, widths };
+    }
+    landings
 }
 
 // ---- records, read by words ----
