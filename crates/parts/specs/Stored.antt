@@ -58,5 +58,5 @@ then-stores {ps} {qs} {before = before} s t e =
 -- their sum has room
 pub then-fits : {ps qs : List Put} {n m : ℕ} {before between after : List ℕ} {a b : Stored}
     → Stores ps 0 before between a → Stores qs 0 between after b → length ps ≤ n → length qs ≤ m → n + m ≤ 4
-    → (a .landed + b .landed < 2 ^ 8) × (a .halfwords + b .halfwords < 2 ^ 32)
+    → (a .landed + b .landed < 2 ^ 64) × (a .halfwords + b .halfwords < 2 ^ 64)
 then-fits s t x y h = (omega (arith, s .number, t .number), omega (arith, s .halfwords, t .halfwords))

@@ -159,14 +159,14 @@ pub fn byte_in(store: &[u8], part: Part, index: usize) -> u8
 // What a store reports: the bytes that landed in its memory, and the video halfwords that it counts. The two go apart: a byte past
 // a memory's end doesn't land, and its halfword counts.
 pub struct Stored {
-    pub landed: u8,
-    pub halfwords: u32,
+    pub landed: u64,
+    pub halfwords: u64,
 }
 
 impl Stored {
     // Two stores, one behind the other.
     fn then(self, next: Stored) -> Stored
-        requires { ⌜ (self .landed + next .landed < 2 ^ 8) × (self .halfwords + next .halfwords < 2 ^ 32) ⌝ }
+        requires { ⌜ (self .landed + next .landed < 2 ^ 64) × (self .halfwords + next .halfwords < 2 ^ 64) ⌝ }
         ensures { λ r. ⌜ r ≡ storeReport (self .landed + next .landed) (self .halfwords + next .halfwords) ⌝ }
     {
         Stored {

@@ -4,11 +4,12 @@
 //
 // The sample, the file `stdin`, was recorded by `tests/against-rust/run --record crates/replay/stdin` from the Rust at commit
 // 46607fe0ef, built unchanged but for a way to its prefetch's private fields. tests/against-rust/README.md has the format. Its
-// 481 cases are the worked figures' lists; random lists over memories of 0, 1, odd and other lengths; sound boards that no
+// 489 cases are the worked figures' lists; random lists over memories of 0, 1, odd and other lengths; sound boards that no
 // list of steps leads to, among them counters near 2^64 - 1; fills across each window edge, and one stopped after each number
 // of cycles; each refusal alone and each two of them; each way to break a board, boards of other lengths, and random damage;
 // each kind of record with each field wrong; lists of 0, 1, 4,096 and 4,097 records; every edge over full memories, those
-// where addresses wrap included; and each memory one byte too long.
+// where addresses wrap included; stores across each memory's end, at lengths of each residue modulo 4; and each memory one byte
+// too long.
 mod pattern;
 mod sample;
 

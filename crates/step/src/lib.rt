@@ -108,22 +108,21 @@ fn with_counters(contents: Contents, vram: u64, oam: u64, palette: u64) -> Conte
 }
 
 // n halfwords go to the counter of a video memory.
-fn count_in(contents: Contents, memory: VideoMemory, n: u32) -> Contents
+fn count_in(contents: Contents, memory: VideoMemory, n: u64) -> Contents
     ensures { λ r. ⌜ r ≡ machine.countedIn memory n contents ⌝ }
 {
-    let k = n as u64;
     let vram = contents.vram_write_count;
     let oam = contents.oam_write_count;
     let palette = contents.palette_write_count;
     match memory {
-        VideoMemory::PaletteRam => with_counters(contents, vram, oam, saturating_add(palette, k)),
-        VideoMemory::VideoRam => with_counters(contents, saturating_add(vram, k), oam, palette),
-        VideoMemory::ObjectRam => with_counters(contents, vram, saturating_add(oam, k), palette),
+        VideoMemory::PaletteRam => with_counters(contents, vram, oam, saturating_add(palette, n)),
+        VideoMemory::VideoRam => with_counters(contents, saturating_add(vram, n), oam, palette),
+        VideoMemory::ObjectRam => with_counters(contents, vram, saturating_add(oam, n), palette),
     }
 }
 
 // The counters after a store that counted n halfwords in the memory that it met.
-fn count_store(contents: Contents, target: Target, n: u32) -> Contents
+fn count_store(contents: Contents, target: Target, n: u64) -> Contents
     ensures { λ r. ⌜ r ≡ machine.countedAt target n contents ⌝ }
 {
     match target {
@@ -136,7 +135,8 @@ fn count_store(contents: Contents, target: Target, n: u32) -> Contents
     }
 }
 
-// WRITE: `write8`, `write16`, `write32`.
+// WRITE: `write8`, `write16`, `write32`. The price comes first, so that the region need not be held through the store: by that the
+// whole run is quicker.
 fn write_step(
     clock: Clock,
     contents: Contents,
@@ -151,15 +151,15 @@ fn write_step(
     ensures { λ r. ⌜ Writes clock contents size addr value lengths (now (store .entry)) r (now (store .exit)) ⌝ }
 {
     let region = region::decode(addr);
+    let cycles = data_price(clock.waitcnt, waits, size, region);
     let target = parts::target_in(region, addr, lengths);
     let stored = stores::write(size, target, addr, value, store, lengths);
     let counted = count_store(contents, target, stored.halfwords);
-    let cycles = data_price(clock.waitcnt, waits, size, region);
     Begun {
         clock,
         idle: 0,
         cycles,
-        hits: stored.landed,
+        hits: (stored.landed % 256) as u8,
         value: 0,
         contents: counted,
     }

@@ -1,13 +1,15 @@
 -- `write_step` meets its contract: the address is decoded once, for the store, its count and the price. Assumes nothing.
 use mathlib.Core.Path.{_≡_, refl, sym, ap, ap₂, _∙_}
-use Prim.Native.Nat.{ℕ}
-use native.Mathlib.Nat.{zero-add}
+use Prim.Native.Nat.{ℕ, _%_}
+use native.Mathlib.Omega.{arith}
+use native.Mathlib.Nat.{zero-add, mod-eq-of-lt}
 use lib.ListN.{length}
 use Rattle.model.specs.Waitcnt.{romWaits, sramWaits}
 use Rattle.model.specs.Memory.{targetIn, target}
 use Rattle.model.specs.Price.{price, dataBeatsIn, dataBeats}
 use Rattle.model.specs.Store.{puts, putsAt, landed, modeOf, videoCount}
 use Rattle.model.specs.Step.{countedAt, countStore}
+use Rattle.model.specs.Laws.Landed.{four-land}
 use Rattle.model.specs.Laws.Places.{Lies, target-lies}
 use Rattle.model.specs.declared.Region.{Region}
 use Rattle.model.specs.declared.Target.{Target}
@@ -15,13 +17,13 @@ use borrow.Author.Needs.{needs}
 use Rattle.step.proofs.write_step.Statement.{statement}
 use Rattle.step.proofs.write_step.Tie as tie
 
--- the memory that the address meets
+-- where the address is decoded and priced: the call's beginning, and the memory that it meets
 abbrev start : tie.After-target-in → tie.Start
-start c = c .before .before .before
+start c = c .before .before .before .before
 
 met : (c : tie.After-target-in) → c .target-in .result ≡ target (start c .args .lengths) (start c .args .addr)
 unfolding target
-met c = c .target-in .ensures ∙ ap (targetIn (start c .args .lengths) (start c .args .addr)) (c .before .decode .ensures)
+met c = c .target-in .ensures ∙ ap (targetIn (start c .args .lengths) (start c .args .addr)) (c .before .before .decode .ensures)
 
 write-requires : tie.Need-write-requires
 write-requires c κs =
@@ -38,9 +40,9 @@ returns c =
     let a = start at .args in
     let mode = modeOf (a .lengths) (a .store .now) in
     let priced =
-    c .data-price .ensures
+    at .before .data-price .ensures
     ∙ ap (λ (r : Region). price (romWaits (a .clock .waitcnt)) (dataBeatsIn (sramWaits (a .clock .waitcnt)) (a .size) r))
-    (at .before .decode .ensures)
+    (at .before .before .decode .ensures)
     in
     let contents =
     counted .count-store .ensures
@@ -48,9 +50,11 @@ returns c =
     ∙ ap (λ (t : Target). countedAt t (videoCount mode (a .size) t) (a .contents)) (met at)
     in
     let told =
-    stored .write .ensures .number
-    ∙ ap (λ (t : Target). length (putsAt mode (a .size) (a .addr) (a .value) t)) (met at)
-    ∙ sym (zero-add (length (putsAt mode (a .size) (a .addr) (a .value) (target (a .lengths) (a .addr)))))
+    ap (λ (n : ℕ). n % 256)
+    (stored .write .ensures .number
+    ∙ ap (λ (t : Target). length (putsAt mode (a .size) (a .addr) (a .value) t)) (met at))
+    ∙ mod-eq-of-lt (omega (arith, four-land (a .lengths) mode (a .size) (a .addr) (a .value)))
+    ∙ sym (zero-add (length (puts (a .lengths) mode (a .size) (a .addr) (a .value))))
     in
     record {
       record-is = λ x. record { clock = a .clock; idle = 0; cycles = priced x; hits = told x; value = 0; contents = contents x };
@@ -65,8 +69,9 @@ write-step-spec =
     (tie.spec
     (λ c κs. search needs)
     (λ c κs. search needs)
+    (λ c κs. search needs)
     write-requires
     (λ c κs. search needs)
-    (λ c κs. search needs)
+    (λ c. search needs)
     (λ c. search needs)
     returns)
