@@ -1,4 +1,5 @@
--- Stores of 1, 2 and 4 bytes: the bytes that land in the lent store, in order, and the video halfwords that are counted.
+-- Stores of 1, 2 and 4 bytes: the bytes that land in the lent store, in order, and the video halfwords that are counted. How
+-- many bytes land is the length of their list, which a WRITE answers (W-201).
 -- From GBATEK, "GBA Memory Map" and "GBA Unpredictable Things"; src/bus/mod.rs (`Bus as CpuMem`); document 01, "mod.rs".
 use mathlib.Core.Bool.{Bool}
 use mathlib.Core.List.{List, [], _∷_, _++_}

@@ -171,7 +171,7 @@ pub enum Step {
     Latch(u32),
 }
 
-// The part of a board on which cycles, hits, counts and the force flag depend, and nothing else of it.
+// The part of a board on which cycles, counts, the force flag and the hits in the buffer depend, and nothing else of it.
 pub struct Clock {
     pub waitcnt: u16,
     pub force_next_fetch_n: bool,
@@ -266,6 +266,7 @@ pub enum Target {
 pub struct Answer {
     pub value: u32,
     pub cycles: u32,
+    // The halfwords taken from the buffer; of a WRITE, the bytes that landed (W-201).
     pub hits: u8,
     pub count: u8,
     pub force: bool,
