@@ -156,8 +156,8 @@ pub fn byte_in(store: &[u8], part: Part, index: usize) -> u8
     byte_at(&store[base..end], index)
 }
 
-// What a store reports: the bytes that landed in its memory, and the video halfwords that it counts. The two go apart: a byte past
-// a memory's end doesn't land, and its halfword counts.
+// What a store reports: the bytes that landed in its memory, and the video halfwords that it counts. The two go apart: a byte
+// past a memory's end doesn't land, and its halfword counts.
 pub struct Stored {
     pub landed: u64,
     pub halfwords: u64,
@@ -193,6 +193,7 @@ fn write_slice(buf: &mut [u8], index: usize, value: u8) -> Stored
     }
 }
 
+// A byte.
 pub fn put(store: &mut [u8], part: Part, index: usize, value: u8) -> Stored
     requires { ⌜ part .base + part .size ≤ length (now store) ⌝ }
     ensures { λ r. ⌜ Stores (put part index value) 0 (now (store .entry)) (now (store .exit)) r ⌝ }

@@ -135,8 +135,8 @@ fn count_store(contents: Contents, target: Target, n: u64) -> Contents
     }
 }
 
-// WRITE: `write8`, `write16`, `write32`. The price comes first, so that the region need not be held through the store: by that the
-// whole run is quicker.
+// WRITE: `write8`, `write16`, `write32`. The price comes first, so that the region need not be held through the store: the
+// whole run is quicker by it.
 fn write_step(
     clock: Clock,
     contents: Contents,

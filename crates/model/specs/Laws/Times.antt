@@ -42,7 +42,8 @@ withLanded n t = record { cycles = t .cycles; hits = t .hits + n; count = t .cou
 -- a run's columns are those of its clock, with the bytes that landed
 pub run-times : (m : Media) (s : State) (xs : List Step) (k : ℕ) (d : Answer) (t : Times) (e : Step) → k < length xs
     → times (getD ((run m s xs) .answers) k d)
-    ≡ withLanded (length ((changed m ((run m s (take k xs)) .state) (getD xs k e)) .puts)) (getD (timings (s .board .clock) xs) k t)
+    ≡ withLanded (length ((changed m ((run m s (take k xs)) .state) (getD xs k e)) .puts))
+    (getD (timings (s .board .clock) xs) k t)
 unfolding run timings
 run-times m s [] k d t e h = absurd (omega arith)
 run-times m s (x ∷ xs) zero d t e h = refl
