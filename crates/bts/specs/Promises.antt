@@ -63,9 +63,9 @@ module _ (i : Lent) (o : Outcome) (call : o ≡ outcome i) where
 
   -- ---- W-201: byte 8 of a WRITE's answer is the number of memory bytes that its store wrote
 
-  pub landed-told : LentBytes i → o .number ≡ 0 → (k : ℕ) → k < recordCount (i .sheet)
+  pub landed-told : o .number ≡ 0 → (k : ℕ) → k < recordCount (i .sheet)
       → (z : AccessSize) (a v : ℕ) → stepOf (recordAt (i .sheet) k) ≡ Write z a v → Told i o k z a v
-  landed-told lent ok k h z a v e = told i o call ok lent k h z a v e
+  landed-told ok k h z a v e = told i o call ok k h z a v e
 
 -- ---- demand 3: any two accepted calls with alike sheets and boards, whatever memories they are lent
 

@@ -1,2 +1,3 @@
 -- What the contracts of `replay` cite. Assumes nothing.
 pub mod Pattern
+pub mod Head

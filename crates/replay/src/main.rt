@@ -11,13 +11,15 @@
 // where addresses wrap included; stores across each memory's end, at lengths of each residue modulo 4; and each memory one byte
 // too long.
 mod pattern;
-mod sample;
 
 use bts::Report;
+use le::word_at;
+use libc::STDIN_FILENO;
 use libc::STDOUT_FILENO;
 use model::Lengths;
 ghost use mathlib.Core.Path.{_≡_};
 ghost use Prim.Native.Nat.{_+_, _*_, _≤_};
+ghost use Rattle.replay.specs.Head.{headFits, headLengths};
 
 // How a case, or a part of it, came out: whether the sample had all of it, and whether nothing differed.
 struct Found {
@@ -57,20 +59,18 @@ fn told(case: u32, what: &[u8], same: bool) -> bool
     same
 }
 
-// A cast of an element is to be proved where it stands, and one of a parameter is not.
-fn wide(x: u32) -> usize {
-    x as usize
-}
-
-fn lengths_of(head: &[u32; 14]) -> Lengths {
+// The head of a case has 14 numbers of four bytes: six lengths of what is lent, the seven of the memories, and the seed.
+fn lengths_of(head: &[u8]) -> Lengths
+    ensures { λ r. ⌜ r ≡ headLengths (now (head .entry)) ⌝ }
+{
     Lengths {
-        ewram: wide(head[6]),
-        iwram: wide(head[7]),
-        io: wide(head[8]),
-        palette: wide(head[9]),
-        vram: wide(head[10]),
-        oam: wide(head[11]),
-        sram: wide(head[12]),
+        ewram: word_at(head, 24) as usize,
+        iwram: word_at(head, 28) as usize,
+        io: word_at(head, 32) as usize,
+        palette: word_at(head, 36) as usize,
+        vram: word_at(head, 40) as usize,
+        oam: word_at(head, 44) as usize,
+        sram: word_at(head, 48) as usize,
     }
 }
 
@@ -81,16 +81,17 @@ fn doubleword(low: u32, high: u32) -> u64
 }
 
 fn compare_report(case: u32, got: Report) -> Found {
-    let mut w = [0u32; 4];
-    if !sample::read_words(&mut w) {
+    let mut want = [0u8; 16];
+    if io::read_full(STDIN_FILENO, &mut want) < 16 {
         return bad_sample();
     }
-    let number = told(case, b"number", got.number == w[0]);
-    let index = told(case, b"index", got.index == w[1]);
-    let total = told(case, b"total", got.total == doubleword(w[2], w[3]));
+    let number = told(case, b"number", got.number == word_at(&want, 0));
+    let index = told(case, b"index", got.index == word_at(&want, 4));
+    let total = doubleword(word_at(&want, 8), word_at(&want, 12));
+    let same_total = told(case, b"total", got.total == total);
     Found {
         whole: true,
-        same: number & index & total,
+        same: number & index & same_total,
     }
 }
 
@@ -104,7 +105,7 @@ fn compare_bytes(case: u32, what: &[u8], got: &[u8]) -> Found {
     }
     let mut space = [0u8; 49164];
     let want = &mut space[0..n];
-    if !sample::read_bytes(want) {
+    if io::read_full(STDIN_FILENO, want) < n {
         return bad_sample();
     }
     Found {
@@ -115,19 +116,15 @@ fn compare_bytes(case: u32, what: &[u8], got: &[u8]) -> Found {
 
 // One changed byte of the store: it is held against the sample, and then set back to what it was before the run.
 fn undo_change(store: &mut [u8], seed: u32) -> Found {
-    let mut place = [0u32; 1];
-    let mut value = [0u8; 1];
-    if !sample::read_words(&mut place) {
+    let mut change = [0u8; 5];
+    if io::read_full(STDIN_FILENO, &mut change) < 5 {
         return bad_sample();
     }
-    if !sample::read_bytes(&mut value) {
-        return bad_sample();
-    }
-    let at = wide(place[0]);
+    let at = word_at(&change, 0) as usize;
     if at >= store.len() {
         return bad_sample();
     }
-    let same = store[at] == value[0];
+    let same = store[at] == change[4];
     store[at] = pattern::byte_at(at, seed, pattern::STORE);
     Found { whole: true, same }
 }
@@ -148,11 +145,11 @@ fn undo_changes(store: &mut [u8], seed: u32, count: u32) -> Found {
 
 // With its changes undone, the store must be as it was before the run, so no second store is needed to compare with.
 fn compare_store(case: u32, store: &mut [u8], seed: u32) -> Found {
-    let mut count = [0u32; 1];
-    if !sample::read_words(&mut count) {
+    let mut count = [0u8; 4];
+    if io::read_full(STDIN_FILENO, &mut count) < 4 {
         return bad_sample();
     }
-    let undone = undo_changes(store, seed, count[0]);
+    let undone = undo_changes(store, seed, word_at(&count, 0));
     if !undone.whole {
         return bad_sample();
     }
@@ -173,10 +170,10 @@ fn set_up(
     answers: &mut [u8],
     seed: u32,
 ) -> bool {
-    if !sample::read_bytes(sheet) {
+    if io::read_full(STDIN_FILENO, sheet) < sheet.len() {
         return false;
     }
-    if !sample::read_bytes(board) {
+    if io::read_full(STDIN_FILENO, board) < board.len() {
         return false;
     }
     pattern::fill(store, seed, pattern::STORE);
@@ -248,13 +245,15 @@ fn replay_lent(
 }
 
 // Whether a case lends no more than the buffers below have.
-fn fits(head: &[u32; 14]) -> bool {
-    (head[0] <= 49172)
-        & (head[1] <= 144)
-        & (head[2] <= 462853)
-        & (head[3] <= 16385)
-        & (head[4] <= 131136)
-        & (head[5] <= 49164)
+fn fits(head: &[u8]) -> bool
+    ensures { λ r. ⌜ r ≡ headFits (now (head .entry)) ⌝ }
+{
+    (word_at(head, 0) <= 49172)
+        & (word_at(head, 4) <= 144)
+        & (word_at(head, 8) <= 462853)
+        & (word_at(head, 12) <= 16385)
+        & (word_at(head, 16) <= 131136)
+        & (word_at(head, 20) <= 49164)
 }
 
 fn at_most(n: u32, most: usize) -> usize
@@ -266,7 +265,7 @@ fn at_most(n: u32, most: usize) -> usize
 
 // A case with its head read. Each buffer is as long as the most that a case of the sample lends, and as much of it is lent as the
 // head says.
-fn replay_headed(case: u32, head: &[u32; 14]) -> Found {
+fn replay_headed(case: u32, head: &[u8]) -> Found {
     if !fits(head) {
         return bad_sample();
     }
@@ -276,12 +275,12 @@ fn replay_headed(case: u32, head: &[u32; 14]) -> Found {
     let mut bios = [0u8; 16385];
     let mut rom = [0u8; 131136];
     let mut answers = [0u8; 49164];
-    let a = at_most(head[0], 49172);
-    let b = at_most(head[1], 144);
-    let c = at_most(head[2], 462853);
-    let d = at_most(head[3], 16385);
-    let e = at_most(head[4], 131136);
-    let f = at_most(head[5], 49164);
+    let a = at_most(word_at(head, 0), 49172);
+    let b = at_most(word_at(head, 4), 144);
+    let c = at_most(word_at(head, 8), 462853);
+    let d = at_most(word_at(head, 12), 16385);
+    let e = at_most(word_at(head, 16), 131136);
+    let f = at_most(word_at(head, 20), 49164);
     let memories = lengths_of(head);
     replay_lent(
         case,
@@ -292,13 +291,13 @@ fn replay_headed(case: u32, head: &[u32; 14]) -> Found {
         &mut rom[0..e],
         &mut answers[0..f],
         memories,
-        head[13],
+        word_at(head, 52),
     )
 }
 
 fn replay_case(case: u32) -> Found {
-    let mut head = [0u32; 14];
-    if !sample::read_words(&mut head) {
+    let mut head = [0u8; 56];
+    if io::read_full(STDIN_FILENO, &mut head) < 56 {
         return bad_sample();
     }
     replay_headed(case, &head)
@@ -329,10 +328,10 @@ fn replay(count: u32) {
 }
 
 fn main() {
-    let mut count = [0u32; 1];
-    if !sample::read_words(&mut count) {
+    let mut count = [0u8; 4];
+    if io::read_full(STDIN_FILENO, &mut count) < 4 {
         io::write_all(STDOUT_FILENO, b"bad sample\n");
         return;
     }
-    replay(count[0]);
+    replay(word_at(&count, 0));
 }

@@ -143,7 +143,7 @@ answer-there (x ∷ xs) rest (suc k) d h =
 
 -- a byte of it
 module _ (b : List ℕ) (k : ℕ) (x : Answer) (e : take answerLength (drop (answerStart k) b) ≡ answerBytes x) where
-  byte-there : (at : ℕ) → at < answerLength → byteAt b (answerStart k + at) ≡ byteAt (answerBytes x) at
+  pub byte-there : (at : ℕ) → at < answerLength → byteAt b (answerStart k + at) ≡ byteAt (answerBytes x) at
   byte-there at h =
       sym (getD-drop (answerStart k) b at 0)
       ∙ sym (getD-take answerLength (drop (answerStart k) b) at 0 h) ∙ ap (λ (l : List ℕ). byteAt l at) e

@@ -1,14 +1,14 @@
 -- How many bytes of a store land (W-201). The number is the length of the list of bytes that land; here is what it says: they
--- are so many different bytes of the memory that is met, each holds afterwards what was stored, and which they are hangs on
--- lengths, display mode, size and address alone.
+-- are so many different bytes of the lent store, each holds afterwards what was stored, and which they are hangs on lengths,
+-- display mode, size and address alone.
 use mathlib.Core.Path.{_≡_, refl, sym, ap, ap₂, _∙_}
 use mathlib.Core.Bool.{Bool, true, false, false≢true}
 use mathlib.Core.Logic.{⊎-elim}
-use mathlib.Core.List.{List, [], _∷_, _++_}
+use mathlib.Core.List.{List, [], _∷_, _++_, map, map-append}
 use Prim.Native.Nat.{ℕ, zero, suc, _+_, _-_, _*_, _/_, _%_, _≤_, _<_, min}
 use native.Mathlib.Omega.{arith}
 use native.Mathlib.Nat.{zero-add, add-zero, zero-min, min-zero, suc-min-suc, min-le-left}
-use lib.ListN.{length, getD, set, length-append, length-set}
+use lib.ListN.{length, getD, set, length-append, length-set, length-map}
 use lib.Seq.{getD-set-same}
 use lib.Dec.{ltb}
 use borrow.Author.Tests.{ltb-true, ltb-false}
@@ -18,7 +18,7 @@ use Rattle.model.specs.Video.{fills}
 use Rattle.model.specs.Memory.{lengthsSum, target, isSram}
 use Rattle.model.specs.Store.{Put, landed, put, putBytes, modeOf, videoPuts, putsAt, puts}
 use Rattle.model.specs.Step.{Media, State, timed, changed, answer}
-use Rattle.model.specs.Laws.Choice.{All, choose, by-test, bit≤1}
+use Rattle.model.specs.Laws.Choice.{All, choose, choose₂, by-test, bit≤1}
 use Rattle.model.specs.Laws.Stores.{Names, unnamed-stays, putBytes-two}
 use Rattle.model.specs.Laws.Places.{Lies, target-lies}
 use Rattle.model.specs.declared.AccessSize.{AccessSize}
@@ -67,41 +67,49 @@ bytes-land p i (suc n) v =
     ∙ ap₂ (λ (x y : ℕ). x + y) (put-lands p i (v % 256)) (bytes-land p (i + 1) n (v / 256))
     ∙ one-more n (p .size) i
 
--- in video memory a byte fills its halfword, or is dropped
-abbrev videoLanding : Bool → AccessSize → Part → ℕ → ℕ
-videoLanding fill Byte p i = if fill then inside p (lowered 2 i) 2 else 0
-videoLanding fill Half p i = inside p (lowered 2 i) 2
-videoLanding fill Word p i = inside p (lowered 4 i) 4
+-- ---- which bytes they are, and so how many, is the same for every stored value: it hangs on lengths, display mode, size and
+-- address alone
 
--- how many bytes land, by display mode, size and the memory that is met; no stored value is among them
-abbrev pub landing : ℕ → AccessSize → Target → ℕ
-landing mode z Unused = 0
-landing mode z SystemRom = 0
-landing mode z GamePakRom = 0
-landing mode z (Plain p i) = inside p (lowered (sizeBytes z) i) (sizeBytes z)
-landing mode z (Video m p i) = videoLanding (fills mode m i) z p i
-landing mode z (Sram p i) = bit (ltb i (p .size))
+abbrev pub placesOf : List Put → List ℕ
+placesOf ps = map (λ (p : Put). p .place) ps
 
-video-landing : (fill : Bool) (z : AccessSize) (p : Part) (i v : ℕ) → length (videoPuts fill z p i v) ≡ videoLanding fill z p i
-video-landing true Byte p i v = bytes-land p (lowered 2 i) 2 (0x0101 * (v % 256))
-video-landing false Byte p i v = refl
-video-landing fill Half p i v = bytes-land p (lowered 2 i) 2 v
-video-landing fill Word p i v = bytes-land p (lowered 4 i) 4 v
+put-places : (p : Part) (i v u : ℕ) → placesOf (put p i v) ≡ placesOf (put p i u)
+unfolding put
+put-places p i v u = choose₂ (λ (ps qs : List Put). placesOf ps ≡ placesOf qs) (ltb i (p .size)) (λ e. refl) (λ e. refl)
 
-pub lands : (mode : ℕ) (z : AccessSize) (a v : ℕ) (t : Target) → length (putsAt mode z a v t) ≡ landing mode z t
-lands mode z a v Unused = refl
-lands mode z a v SystemRom = refl
-lands mode z a v GamePakRom = refl
-lands mode z a v (Plain p i) = bytes-land p (lowered (sizeBytes z) i) (sizeBytes z) v
-lands mode z a v (Video m p i) = video-landing (fills mode m i) z p i v
-lands mode z a v (Sram p i) = put-lands p i (byteOf (a % sizeBytes z) v)
+bytes-places : (p : Part) (i n v u : ℕ) → placesOf (putBytes p i n v) ≡ placesOf (putBytes p i n u)
+bytes-places p i zero v u = refl
+bytes-places p i (suc n) v u =
+    map-append (λ (x : Put). x .place) (put p i (v % 256)) (putBytes p (i + 1) n (v / 256))
+    ∙ ap₂ (λ (xs ys : List ℕ). xs ++ ys) (put-places p i (v % 256) (u % 256)) (bytes-places p (i + 1) n (v / 256) (u / 256))
+    ∙ sym (map-append (λ (x : Put). x .place) (put p i (u % 256)) (putBytes p (i + 1) n (u / 256)))
 
--- ---- it is the same for every stored value: a function of lengths, display mode, size and address alone
+video-places : (fill : Bool) (z : AccessSize) (p : Part) (i v u : ℕ)
+    → placesOf (videoPuts fill z p i v) ≡ placesOf (videoPuts fill z p i u)
+video-places true Byte p i v u = bytes-places p (lowered 2 i) 2 (0x0101 * (v % 256)) (0x0101 * (u % 256))
+video-places false Byte p i v u = refl
+video-places fill Half p i v u = bytes-places p (lowered 2 i) 2 v u
+video-places fill Word p i v u = bytes-places p (lowered 4 i) 4 v u
+
+places-at : (mode : ℕ) (z : AccessSize) (a v u : ℕ) (t : Target) → placesOf (putsAt mode z a v t) ≡ placesOf (putsAt mode z a u t)
+places-at mode z a v u Unused = refl
+places-at mode z a v u SystemRom = refl
+places-at mode z a v u GamePakRom = refl
+places-at mode z a v u (Plain p i) = bytes-places p (lowered (sizeBytes z) i) (sizeBytes z) v u
+places-at mode z a v u (Video m p i) = video-places (fills mode m i) z p i v u
+places-at mode z a v u (Sram p i) = put-places p i (byteOf (a % sizeBytes z) v) (byteOf (a % sizeBytes z) u)
+
+pub same-places : (l : Lengths) (mode : ℕ) (z : AccessSize) (a v u : ℕ)
+    → placesOf (puts l mode z a v) ≡ placesOf (puts l mode z a u)
+unfolding puts
+same-places l mode z a v u = places-at mode z a v u (target l a)
 
 pub any-value : (l : Lengths) (mode : ℕ) (z : AccessSize) (a v u : ℕ)
     → length (puts l mode z a v) ≡ length (puts l mode z a u)
-unfolding puts
-any-value l mode z a v u = lands mode z a v (target l a) ∙ sym (lands mode z a u (target l a))
+any-value l mode z a v u =
+    sym (length-map (puts l mode z a v) (λ (p : Put). p .place))
+    ∙ ap length (same-places l mode z a v u)
+    ∙ length-map (puts l mode z a u) (λ (p : Put). p .place)
 
 -- ---- of an expanded video byte each of the two bytes counts that lies within the memory
 
@@ -262,13 +270,3 @@ pub other-hits : (m : Media) (s : State) (x : Step) → (changed m s x) .puts �
     → (answer m s x) .hits ≡ (timed (s .board .clock) x) .hits
 other-hits m s x e =
     ap (λ (ps : List Put). (timed (s .board .clock) x) .hits + length ps) e ∙ add-zero ((timed (s .board .clock) x) .hits)
-
--- whatever the memories hold else, and whatever is stored
-pub same-hits : (m n : Media) (s t : State) (z : AccessSize) (a v u : ℕ)
-    → m .lengths ≡ n .lengths → modeOf (m .lengths) (s .store) ≡ modeOf (n .lengths) (t .store)
-    → (answer m s (Write z a v)) .hits ≡ (answer n t (Write z a u)) .hits
-same-hits m n s t z a v u el em =
-    write-hits m s z a v
-    ∙ ap₂ (λ (l : Lengths) (mode : ℕ). length (puts l mode z a v)) el em
-    ∙ any-value (n .lengths) (modeOf (n .lengths) (t .store)) z a v u
-    ∙ sym (write-hits n t z a u)

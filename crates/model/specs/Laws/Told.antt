@@ -1,7 +1,9 @@
 -- W-201, of bytes as lent: what byte 8 of a WRITE's answer tells of the store that the run leaves.
-use mathlib.Core.Path.{_≡_, sym, ap, _∙_}
+use mathlib.Core.Path.{_≡_, sym, ap, ap₂, _∙_}
 use mathlib.Core.List.{List}
-use Prim.Native.Nat.{ℕ, suc, _+_, _≤_, _<_}
+use Prim.Native.Nat.{ℕ, suc, _+_, _%_, _≤_, _<_}
+use native.Mathlib.Omega.{arith}
+use native.Mathlib.Nat.{mod-eq-of-lt}
 use lib.ListN.{length}
 use lib.Seq.{take-suc}
 use Rattle.model.specs.Base.{byteAt}
@@ -9,12 +11,13 @@ use Rattle.model.specs.Memory.{lengthsSum}
 use Rattle.model.specs.Store.{Put, landed, modeOf, puts}
 use Rattle.model.specs.Step.{State, run, stepped, answer}
 use Rattle.model.specs.Sheet.{recordAt, recordCount, stepOf, stepsOf}
-use Rattle.model.specs.Outcome.{Lent, LentBytes, Outcome, mediaOf, firstState, outcome}
+use Rattle.model.specs.Outcome.{Lent, Outcome, mediaOf, firstState, outcome}
 use Rattle.model.specs.Alike.{stateAt, answerAt, answerStart}
 use Rattle.model.specs.Laws.Run.{run-snoc}
-use Rattle.model.specs.Laws.Landed.{four-land, none-lands, Written, written, write-hits, same-hits}
-use Rattle.model.specs.Laws.Demand3.{step-there, step-is, accounts}
+use Rattle.model.specs.Laws.Landed.{four-land, none-lands, Written, written, any-value, write-hits}
+use Rattle.model.specs.Laws.Demand3.{byte-there, step-there, step-is, accounts}
 use Rattle.model.specs.declared.AccessSize.{AccessSize}
+use Rattle.model.specs.declared.Lengths.{Lengths}
 use Rattle.model.specs.declared.Step.{Step}
 use Rattle.model.specs.declared.Step.the-variants.{Write, Latch}
 
@@ -47,16 +50,16 @@ state-next i k h =
     ∙ ap (λ r. r .state) (run-snoc (mediaOf i) (firstState i) _ _)
     ∙ ap (stepped (mediaOf i) (stateAt i k)) (step-is i k h)
 
-module _ (i : Lent) (o : Outcome) (ok : o ≡ outcome i) (zero-number : o .number ≡ 0) (lent : LentBytes i)
+module _ (i : Lent) (o : Outcome) (ok : o ≡ outcome i) (zero-number : o .number ≡ 0)
     (k : ℕ) (h : k < recordCount (i .sheet)) (z : AccessSize) (a v : ℕ) (e : stepOf (recordAt (i .sheet) k) ≡ Write z a v) where
-  hits-are : hitsByte o k ≡ (answer (mediaOf i) (stateAt i k) (Write z a v)) .hits
-  unfolding answerAt
-  hits-are =
-      ((accounts i o ok zero-number) .fields lent k h) .hits
-      ∙ ap (λ (x : Step). (answer (mediaOf i) (stateAt i k) x) .hits) e
-
+  -- few enough for a byte
   number-is : hitsByte o k ≡ length (putsOf i k z a v)
-  number-is = hits-are ∙ write-hits (mediaOf i) (stateAt i k) z a v
+  unfolding answerAt
+  number-is =
+      byte-there (o .answers) k (answerAt i k) ((accounts i o ok zero-number) .bytes k h) 8 (omega arith)
+      ∙ ap (λ (x : Step). (answer (mediaOf i) (stateAt i k) x) .hits % 256) e
+      ∙ ap (λ (n : ℕ). n % 256) (write-hits (mediaOf i) (stateAt i k) z a v)
+      ∙ mod-eq-of-lt (omega (arith, four-land (i .lengths) (modeOf (i .lengths) ((stateAt i k) .store)) z a v))
 
   store-is : (stateAt i (suc k)) .store ≡ landed ((stateAt i k) .store) (putsOf i k z a v)
   store-is =
@@ -75,11 +78,12 @@ module _ (i : Lent) (o : Outcome) (ok : o ≡ outcome i) (zero-number : o .numbe
 
 -- of two runs, whatever is stored and whatever their memories hold: equal lengths and one display mode give one number
 pub told-alike : (i j : Lent) (o p : Outcome) → o ≡ outcome i → p ≡ outcome j → o .number ≡ 0 → p .number ≡ 0
-    → LentBytes i → LentBytes j → (k : ℕ) → k < recordCount (i .sheet) → k < recordCount (j .sheet)
+    → (k : ℕ) → k < recordCount (i .sheet) → k < recordCount (j .sheet)
     → (z : AccessSize) (a v u : ℕ) → stepOf (recordAt (i .sheet) k) ≡ Write z a v → stepOf (recordAt (j .sheet) k) ≡ Write z a u
     → i .lengths ≡ j .lengths → modeOf (i .lengths) ((stateAt i k) .store) ≡ modeOf (j .lengths) ((stateAt j k) .store)
     → hitsByte o k ≡ hitsByte p k
-told-alike i j o p e f m n b c k h l z a v u x y el em =
-    hits-are i o e m b k h z a v x
-    ∙ same-hits (mediaOf i) (mediaOf j) (stateAt i k) (stateAt j k) z a v u el em
-    ∙ sym (hits-are j p f n c k l z a u y)
+told-alike i j o p e f m n k h l z a v u x y el em =
+    number-is i o e m k h z a v x
+    ∙ ap₂ (λ (ls : Lengths) (mode : ℕ). length (puts ls mode z a v)) el em
+    ∙ any-value (j .lengths) (modeOf (j .lengths) ((stateAt j k) .store)) z a v u
+    ∙ sym (number-is j p f n k l z a u y)
