@@ -5,7 +5,6 @@ use mathlib.Core.List.{List, [], _∷_, _++_, map, append-assoc, append-nil, map
 use Prim.Native.Nat.{ℕ, zero, suc, _+_, _*_, _≤_, _<_}
 use native.Mathlib.Omega.{arith}
 use lib.ListN.{length, drop, length-append, length-drop}
-use lib.Seq.{take-at, drop-at, drop-drop}
 use borrow.Rule.Slice.PartMut.{putMid}
 use Rattle.model.specs.Base.{sum}
 use Rattle.model.specs.Waitcnt.{Waits, romWaits}
@@ -14,6 +13,7 @@ use Rattle.model.specs.Sheet.{maxRecords, recordStart, recordAt, recordsFrom, s
 use Rattle.model.specs.BoardBytes.{answerLength, answerBytes, answersBytes}
 use Rattle.model.specs.Memory.{lengthsSum}
 use Rattle.model.specs.Laws.Sound.{SoundClock, clockAfter-sound}
+use Rattle.model.specs.Laws.Codec.{put-next}
 use Rattle.model.specs.Laws.Run.{run-snoc, run-length, run-store}
 use Rattle.model.specs.Laws.Limits.{records-length}
 use Rattle.step.specs.Begun.{stateFrom, Runnable, Steps}
@@ -90,16 +90,9 @@ cycles-snoc : (xs : List Answer) (x : Answer)
 cycles-snoc [] x = omega arith
 cycles-snoc (y ∷ xs) x = omega (arith, cycles-snoc xs x)
 
-answers-size : (xs : List Answer) → length (answersBytes xs) ≡ answerLength * length xs
+pub answers-size : (xs : List Answer) → length (answersBytes xs) ≡ answerLength * length xs
 answers-size [] = refl
 answers-size (x ∷ xs) = length-append (answerBytes x) (answersBytes xs) ∙ omega (arith, answers-size xs)
-
--- twelve bytes behind those that are done
-place : (done rest new : List ℕ) (a : ℕ) → length done ≡ a
-    → putMid a answerLength (done ++ rest) new ≡ (done ++ new) ++ drop answerLength rest
-place done rest new a e =
-    ap₂ (λ (x y : List ℕ). x ++ (new ++ drop answerLength y)) (take-at done rest a e) (drop-at done rest a e)
-    ∙ sym (append-assoc done new (drop answerLength rest))
 
 module _ (m : Media) (s₀ : State) (sheet lent : List ℕ) where
   -- the bytes of k answers
@@ -138,18 +131,15 @@ module _ (m : Media) (s₀ : State) (sheet lent : List ℕ) where
       let a : Answer = answer m (before .state) x in
       let more : ranTo m s₀ sheet (k + 1) ≡ record { answers = before .answers ++ a ∷ []; state = stepped m (before .state) x } =
       ran-further m s₀ sheet k in
-      let next : answerLength * k + answerLength ≡ answerLength * (k + 1) = omega arith in
       record {
         state = et ∙ ap (λ (u : State). stepped m u x) (b .state) ∙ sym (ap (λ (r : Result). r .state) more);
         written =
             el
             ∙ ap₂ (λ (l : List ℕ) (u : State). putMid (answerLength * k) answerLength l (answerBytes (answer m u x)))
             (b .written) (b .state)
-            ∙ place (answersBytes (before .answers)) (drop (answerLength * k) lent) (answerBytes a) (answerLength * k)
-            (done-size k)
-            ∙ ap₂ (λ (l r : List ℕ). l ++ r)
-            (sym (answers-snoc (before .answers) a) ∙ ap answersBytes (sym (ap (λ (r : Result). r .answers) more)))
-            (drop-drop answerLength (answerLength * k) lent ∙ ap (λ (j : ℕ). drop j lent) next);
+            ∙ put-next answerLength k (answersBytes (before .answers)) lent (answerBytes a) (done-size k)
+            ∙ ap (λ (l : List ℕ). l ++ drop (answerLength * (k + 1)) lent)
+            (sym (answers-snoc (before .answers) a) ∙ ap answersBytes (sym (ap (λ (r : Result). r .answers) more)));
         summed =
             es
             ∙ ap₂ (λ (n : ℕ) (u : State). n + (answer m u x) .cycles) (b .summed) (b .state)

@@ -1,6 +1,6 @@
--- What a reader gets who trusts only the exported function: demands 1 and 3, and what a WRITE tells, of the outcome of any call
--- of `bts_run`. Its contract says of a call that was lent `i` and left `o` that `o ≡ outcome i`; everything here follows from
--- that equation.
+-- What a reader gets who trusts only the exported functions. The contract of `bts_run` says of a call that was lent `i` and left
+-- `o` that `o ≡ outcome i`; that of `bts_run_tariff` says of one that was lent `t` and left `b` that `b ≡ bill t`. All that is
+-- here follows from these equations: demands 1 and 3, what a WRITE tells, and what is charged.
 use mathlib.Core.Path.{_≡_, refl}
 use mathlib.Core.Logic.{_≢_}
 use mathlib.Core.Bool.{true}
@@ -9,13 +9,17 @@ use Rattle.model.specs.Sheet.{maxRecords, recordAt, recordCount, stepOf}
 use Rattle.model.specs.BoardBytes.{sound}
 use Rattle.model.specs.Outcome.{Lent, LentBytes, Outcome, verdict, outcomeBy, outcome}
 use Rattle.model.specs.Alike.{AlikeSheets, AlikeBoards, Accounts, Demand3}
+use Rattle.model.specs.Tariff.{Tariffed, Billed, tariffVerdict, billBy, bill, Bills, SameBill}
 use Rattle.model.specs.Laws.Rows.{Exactly}
 use Rattle.model.specs.Laws.Refusal as refusal
 use Rattle.model.specs.Laws.Refusal.{Table, Index, Acceptable, Untouched}
 use Rattle.model.specs.Laws.Fits.{board-sound, total-fits}
 use Rattle.model.specs.Laws.Demand3 as demand
 use Rattle.model.specs.Laws.Told.{Told, told}
-use Rattle.examine.specs.Verdicts.{ready, index-small}
+use Rattle.model.specs.Laws.Billed as billed
+use Rattle.model.specs.Laws.Billed.{TariffTable, TariffAcceptable, RateAlone, Room, Fair, Unbilled}
+use Rattle.examine.specs.Verdicts.{ready, index-small, tariff-index-small}
+use Rattle.bts.specs.Reported.{run-accepts}
 use Rattle.model.specs.declared.AccessSize.{AccessSize}
 use Rattle.model.specs.declared.Step.the-variants.{Write}
 use Rattle.model.specs.declared.Verdict.{Verdict}
@@ -72,3 +76,49 @@ module _ (i : Lent) (o : Outcome) (call : o ≡ outcome i) where
 pub same-times : (i j : Lent) (o p : Outcome) → o ≡ outcome i → p ≡ outcome j → o .number ≡ 0 → p .number ≡ 0
     → AlikeSheets (i .sheet) (j .sheet) → AlikeBoards (i .board) (j .board) → Demand3 i j o p
 same-times = demand.demand3
+
+-- ---- W-202: the run under a tariff
+
+module _ (t : Tariffed) (b : Billed) (call : b ≡ bill t) where
+  -- demand 1: each number exactly when its row of the tariff's table holds and no earlier one does
+  pub tariff-table : TariffTable t b
+  tariff-table = rw call (billed.tariff-table t)
+
+  -- number 0 exactly when the run's conditions hold, there is room for the shares and the rate is fair
+  pub tariff-accepts : Exactly (b .run .number ≡ 0) (TariffAcceptable t)
+  tariff-accepts = rw call (billed.tariff-zero t)
+
+  -- number 8 exactly when the rate is not fair and nothing else is wrong
+  pub refuses-rate : Exactly (b .run .number ≡ 8) (RateAlone t)
+  refuses-rate = rw call (billed.bad-rate t)
+
+  -- the index: 0 for 8 too
+  pub tariff-index : Index (t .run) (b .run)
+  tariff-index = rw call (billed.tariff-index t)
+
+  pub tariff-few-records : b .run .index ≤ maxRecords
+  unfolding bill
+  tariff-few-records = rw call (by-verdict (tariffVerdict t) refl)
+    where
+      by-verdict : (v : Verdict) → tariffVerdict t ≡ v → (billBy t v) .run .index ≤ maxRecords
+      by-verdict Accepted a = (ready (t .run) (run-accepts t a)) .shaped .few
+      by-verdict (Refused r) a = tariff-index-small t r a
+
+  -- a refusal gives total and charge 0 and changes no byte, the shares' among them
+  pub tariff-refuses : b .run .number ≢ 0 → Unbilled t b
+  tariff-refuses = rw call (billed.refused-unbilled t)
+
+  -- with room for the shares and a fair rate it is the run's outcome, refused or not; so all that is promised of it holds here
+  pub whole-run : Room t → Fair (t .rate) → b .run ≡ outcome (t .run)
+  whole-run = rw call (billed.whole-run t)
+
+  -- an accepted run by itself: its charge, its shares and their sum
+  pub bills : b .run .number ≡ 0 → Bills t b
+  bills = billed.bills t b call
+
+-- demand 3's sentence for the tariff: under one rate any two accepted calls with alike sheets and boards have the same shares and
+-- charge, whatever memories they are lent
+pub same-bills : (t u : Tariffed) (a b : Billed) → a ≡ bill t → b ≡ bill u → a .run .number ≡ 0 → b .run .number ≡ 0
+    → t .rate ≡ u .rate → AlikeSheets (t .run .sheet) (u .run .sheet) → AlikeBoards (t .run .board) (u .run .board)
+    → SameBill t u a b
+same-bills = billed.same-bill

@@ -1,20 +1,34 @@
--- What the exported run gives back, as the definitions have it; and what an accepted run's parts make of it.
-use mathlib.Core.Path.{_≡_, refl, sym, ap, _∙_}
+-- What the exported runs give back, as the definitions have it; and what an accepted run's parts make of it.
+use mathlib.Core.Path.{_≡_, refl, sym, ap, ap₂, _∙_}
 use mathlib.Core.List.{List}
-use Prim.Native.Nat.{ℕ}
-use Rattle.model.specs.Step.{State}
+use Prim.Native.Nat.{ℕ, _*_, _≤_}
+use native.Mathlib.Omega.{arith}
+use lib.ListN.{length, drop, length-append}
+use Rattle.model.specs.Base.{sum}
+use Rattle.model.specs.Step.{State, cyclesOf}
 use Rattle.model.specs.Sheet.{recordCount}
-use Rattle.model.specs.BoardBytes.{clockOf, halvesFrom, contentsOf, boardBytes}
-use Rattle.model.specs.Outcome.{Lent, Outcome, mediaOf, firstState, ran, verdict, refusalNumber, refusalIndex, outcomeBy, outcome}
+use Rattle.model.specs.BoardBytes.{answerLength, clockOf, halvesFrom, contentsOf, boardBytes, answersBytes}
+use Rattle.model.specs.Outcome.{Lent, LentBytes, Outcome, mediaOf, firstState, ran, verdict, refusalNumber, refusalIndex}
+use Rattle.model.specs.Outcome.{outcomeBy, outcome}
+use Rattle.model.specs.Alike.{cyclesFrom}
+use Rattle.model.specs.Tariff.{charge, sharesIn, Tariffed, Billed, tariffVerdict, billBy, bill}
+use Rattle.model.specs.Laws.Refusal.{number-zero, zero-exactly}
+use Rattle.model.specs.Laws.Fits.{answers-count, total-fits}
+use Rattle.model.specs.Laws.Demand3.{cycles-there}
+use Rattle.model.specs.Laws.Billed.{TariffAcceptable, tariff-accepted}
 use Rattle.step.specs.Begun.{stateFrom}
 use Rattle.examine.specs.Lent.{lending}
-use Rattle.bts.specs.Beginning.{Beginning, Ends}
+use Rattle.examine.specs.Verdicts.{ready}
+use Rattle.tariff.specs.Shares.{Payable, Billable}
+use Rattle.bts.specs.Beginning.{Beginning, Ends, answers-size}
+use Rattle.model.specs.declared.Answer.{Answer}
 use Rattle.model.specs.declared.Clock.{Clock}
 use Rattle.model.specs.declared.Contents.{Contents}
 use Rattle.model.specs.declared.Lengths.{Lengths}
 use Rattle.model.specs.declared.Refusal.{Refusal}
 use Rattle.model.specs.declared.Verdict.the-variants.{Accepted, Refused}
 use Rattle.bts.specs.declared.Report.{Report}
+use Rattle.bts.specs.declared.Bill.{Bill}
 use Rattle.bts.specs.declared.run.Done.{Done}
 
 -- a report, with what stands in the lent buffers then
@@ -53,11 +67,104 @@ module _ (i : Lent) (n : ℕ) (c : Clock) (h : List ℕ) (d : Contents) (en : n 
       (rw (e .all, en, ec, eh, ed) at (e .beginning)) eb refl en
 
 -- a report of a refusal, with the buffers as they were lent, is the refused outcome
+refused-by : (i : Lent) (q : Refusal) (r : Report) → r .number ≡ refusalNumber q → r .index ≡ refusalIndex q → r .total ≡ 0
+    → reported r (i .board) (i .store) (i .answers) ≡ outcomeBy i (Refused q)
+refused-by i q r n k t x =
+    record { number = n x; index = k x; total = t x; board = i .board; store = i .store; answers = i .answers }
+
 pub refused-from : (i : Lent) (q : Refusal) (r : Report) → verdict i ≡ Refused q
     → r .number ≡ refusalNumber q → r .index ≡ refusalIndex q → r .total ≡ 0
     → reported r (i .board) (i .store) (i .answers) ≡ outcome i
 unfolding outcome
-refused-from i q r e n k t = same ∙ sym (ap (outcomeBy i) e)
+refused-from i q r e n k t = refused-by i q r n k t ∙ sym (ap (outcomeBy i) e)
+
+-- ---- under a tariff
+
+-- what a bill has of a report
+abbrev reportOf : Bill → Report
+reportOf r = record { number = r .number; index = r .index; total = r .total }
+
+-- a bill, with what stands in the lent buffers then
+abbrev pub reportedBill : Bill → List ℕ → List ℕ → List ℕ → List ℕ → Billed
+reportedBill r board store answers shares =
+    record { run = reported (reportOf r) board store answers; charge = r .charge; shares = shares }
+
+-- a refusal's bill, with the buffers as they were lent, is the refused one
+pub refused-bill : (t : Tariffed) (q : Refusal) (r : Bill) → tariffVerdict t ≡ Refused q
+    → r .number ≡ refusalNumber q → r .index ≡ refusalIndex q → r .total ≡ 0 → r .charge ≡ 0
+    → reportedBill r (t .run .board) (t .run .store) (t .run .answers) (t .shares) ≡ bill t
+unfolding bill
+refused-bill t q r e n k z c = same ∙ sym (ap (billBy t) e)
   where
-    same : reported r (i .board) (i .store) (i .answers) ≡ outcomeBy i (Refused q)
-    same x = record { number = n x; index = k x; total = t x; board = i .board; store = i .store; answers = i .answers }
+    same : reportedBill r (t .run .board) (t .run .store) (t .run .answers) (t .shares) ≡ billBy t (Refused q)
+    same x = record { run = refused-by (t .run) q (reportOf r) n k z x; charge = c x; shares = t .shares }
+
+-- an accepted run, of which `r` was reported
+module _ (t : Tariffed) (yes : tariffVerdict t ≡ Accepted) where
+  asked : TariffAcceptable t
+  asked = tariff-accepted t yes
+
+  -- the run accepts too
+  pub run-accepts : verdict (t .run) ≡ Accepted
+  run-accepts = number-zero (t .run) ((zero-exactly (t .run)) .1 (asked .all .run))
+
+  module _ {r : Report} {board store answers : List ℕ}
+      (ran-is : reported r board store answers ≡ outcomeBy (t .run) Accepted) where
+    -- it is the run's outcome
+    outcome-is : reported r board store answers ≡ outcome (t .run)
+    unfolding outcome
+    outcome-is = ran-is ∙ sym (ap (outcomeBy (t .run)) run-accepts)
+
+    no-refusal : r .number ≡ 0
+    no-refusal = ap (λ (o : Outcome). o .number) ran-is
+
+    all-records : r .index ≡ recordCount (t .run .sheet)
+    all-records = ap (λ (o : Outcome). o .index) ran-is
+
+    -- its answers stand
+    answered : answerLength * recordCount (t .run .sheet) ≤ length answers
+    answered =
+        let xs : List Answer = (ran (t .run)) .answers in
+        omega (
+          arith,
+          ap (λ (o : Outcome). length (o .answers)) ran-is,
+          length-append (answersBytes xs) (drop (answerLength * recordCount (t .run .sheet)) (t .run .answers)),
+          answers-size xs,
+          answers-count (t .run),
+        )
+
+    module _ (lent : LentBytes (t .run)) where
+      -- the cycles that stand in its answers are the run's
+      cycles-are : cyclesFrom answers 0 (r .index) ≡ cyclesOf (ran (t .run))
+      cycles-are =
+          ap (cyclesFrom answers 0) all-records
+          ∙ cycles-there (t .run) (reported r board store answers) outcome-is no-refusal lent
+
+      pub payable : Payable (t .rate) (r .total)
+      payable =
+          record {
+            most = asked .rate .most;
+            few = rw (← outcome-is) at (total-fits (t .run) lent (sym (ap (λ (o : Outcome). o .number) outcome-is) ∙ no-refusal));
+          }
+
+      pub billable : Billable (r .index) (r .total) (t .rate) answers (t .shares)
+      billable =
+          record {
+            few = omega (arith, all-records, (ready (t .run) run-accepts) .shaped .few);
+            answered = omega (arith, all-records, answered);
+            room = omega (arith, all-records, asked .all .room .shares);
+            summed = ap (λ (o : Outcome). o .total) ran-is ∙ sym (ap sum cycles-are);
+            payable = payable;
+          }
+
+      -- with the shares and the charge it is the accepted bill
+      pub billed-from : {cents : ℕ} {written : List ℕ} → cents ≡ charge (t .rate) (r .total)
+          → written ≡ sharesIn (t .shares) (t .rate) (cyclesFrom answers 0 (r .index)) (r .index)
+          → reportedBill (record { number = r .number; index = r .index; total = r .total; charge = cents }) board store answers
+          written ≡ billBy t Accepted
+      billed-from e w x =
+          record {
+            run = ran-is x;
+            charge = (e ∙ ap (λ (o : Outcome). charge (t .rate) (o .total)) ran-is) x;
+            shares = (w ∙ ap₂ (sharesIn (t .shares) (t .rate)) cycles-are all-records) x;
+          }

@@ -1,4 +1,5 @@
-// The run of a sheet over a lent board and lent memories, exported to C as `bts_run`. include/bts.h documents it for C.
+// The run of a sheet over a lent board and lent memories, exported to C as `bts_run`, and the same under a tariff, exported as
+// `bts_run_tariff`. include/bts.h documents both for C.
 mod run;
 
 use model::Lengths;
@@ -7,8 +8,9 @@ use records::sheet;
 ghost use mathlib.Core.Path.{_≡_};
 ghost use Rattle.model.specs.Outcome.{verdict, outcomeBy, outcome};
 ghost use Rattle.model.specs.declared.Verdict.the-variants.{Accepted};
-ghost use Rattle.examine.specs.Lent.{lending};
-ghost use Rattle.bts.specs.Reported.{reported};
+ghost use Rattle.model.specs.Tariff.{tariffVerdict, billBy, bill};
+ghost use Rattle.examine.specs.Lent.{lending, tariffing};
+ghost use Rattle.bts.specs.Reported.{reported, reportedBill};
 
 // What a run gives back: 0, the number of records and the total; or the refusal's number and index, and 0.
 #[repr(C)]
@@ -16,6 +18,15 @@ pub struct Report {
     pub number: u32,
     pub index: u32,
     pub total: u64,
+}
+
+// What a run under a tariff gives back: what a run does, and what its total costs, in cents.
+#[repr(C)]
+pub struct Bill {
+    pub number: u32,
+    pub index: u32,
+    pub total: u64,
+    pub charge: u64,
 }
 
 // Runs the records of an accepted sheet.
@@ -96,6 +107,99 @@ pub extern "C" fn bts_run(
             number: examine::refusal_number(refusal),
             index: examine::refusal_index(refusal) as u32,
             total: 0,
+        },
+    }
+}
+
+// The same under a tariff: the run, and then the shares of its steps, from the cycles that stand in the answers.
+fn bill_accepted(
+    sheet: &[u8],
+    board: &mut [u8],
+    store: &mut [u8],
+    bios: &[u8],
+    rom: &[u8],
+    answers: &mut [u8],
+    shares: &mut [u8],
+    lengths: Lengths,
+    rate: u32,
+) -> Bill
+    requires { ⌜ tariffVerdict (tariffing (lending (now sheet) (now board) (now store) (now bios) (now rom) (now answers) lengths)
+        (now shares) rate) ≡ Accepted ⌝ }
+    ensures { λ r. ⌜ reportedBill r (now (board .exit)) (now (store .exit)) (now (answers .exit)) (now (shares .exit))
+        ≡ billBy (tariffing (lending (now (sheet .entry)) (now (board .entry)) (now (store .entry)) (now (bios .entry))
+        (now (rom .entry)) (now (answers .entry)) lengths) (now (shares .entry)) rate) Accepted ⌝ }
+{
+    let report = run_accepted(sheet, board, store, bios, rom, answers, lengths);
+    tariff::put_shares(answers, report.index as usize, report.total, rate, shares);
+    Bill {
+        number: report.number,
+        index: report.index,
+        total: report.total,
+        charge: tariff::charge(report.total, rate),
+    }
+}
+
+#[no_mangle]
+pub extern "C" fn bts_run_tariff(
+    sheet: &[u8],
+    board: &mut [u8],
+    store: &mut [u8],
+    bios: &[u8],
+    rom: &[u8],
+    answers: &mut [u8],
+    shares: &mut [u8],
+    ewram: usize,
+    iwram: usize,
+    io: usize,
+    palette: usize,
+    vram: usize,
+    oam: usize,
+    sram: usize,
+    rate: u32,
+) -> Bill
+    ensures { λ r. ⌜ reportedBill r (now (board .exit)) (now (store .exit)) (now (answers .exit)) (now (shares .exit))
+        ≡ bill (tariffing (lending (now (sheet .entry)) (now (board .entry)) (now (store .entry)) (now (bios .entry))
+        (now (rom .entry)) (now (answers .entry))
+        (record { ewram = ewram; iwram = iwram; io = io; palette = palette; vram = vram; oam = oam; sram = sram }))
+        (now (shares .entry)) rate) ⌝ }
+{
+    let lengths = Lengths {
+        ewram,
+        iwram,
+        io,
+        palette,
+        vram,
+        oam,
+        sram,
+    };
+    let verdict = examine::examine_tariff(
+        sheet,
+        board,
+        store,
+        bios,
+        rom,
+        answers,
+        shares,
+        lengths,
+        rate,
+    );
+    match verdict {
+        Verdict::Accepted => bill_accepted(
+            sheet,
+            board,
+            store,
+            bios,
+            rom,
+            answers,
+            shares,
+            lengths,
+            rate,
+        ),
+        Verdict::Refused(refusal) => Bill {
+            number: examine::refusal_number(refusal),
+            index: examine::refusal_index(refusal) as u32,
+            total: 0,
+            charge: 0,
         },
     }
 }

@@ -1,9 +1,13 @@
--- All that a run is lent, as the definitions have it.
+-- All that a run is lent, as the definitions have it, and a run under a tariff.
 use mathlib.Core.List.{List}
 use Prim.Native.Nat.{ℕ}
 use Rattle.model.specs.Outcome.{Lent}
+use Rattle.model.specs.Tariff.{Tariffed}
 use Rattle.model.specs.declared.Lengths.{Lengths}
 
 abbrev pub lending : List ℕ → List ℕ → List ℕ → List ℕ → List ℕ → List ℕ → Lengths → Lent
 lending sheet board store bios rom answers l =
     record { sheet = sheet; board = board; store = store; bios = bios; rom = rom; answers = answers; lengths = l }
+
+abbrev pub tariffing : Lent → List ℕ → ℕ → Tariffed
+tariffing i shares rate = record { run = i; shares = shares; rate = rate }

@@ -6,25 +6,28 @@ use mathlib.Core.List.{List, _++_}
 use Prim.Native.Nat.{ℕ, _+_, _*_, _≤_, _<_}
 use native.Mathlib.Omega.{arith}
 use lib.ListN.{length}
-use lib.Dec.{eqb, leb}
+use lib.Dec.{eqb, ltb, leb, lit<}
 use borrow.Author.Tests.{eqb-true, leb-true, lt-ltb, le-ltb, not-true, not-false}
 use Rattle.model.specs.Base.{AllBytes}
 use Rattle.model.specs.Memory.{lengthsSum}
 use Rattle.model.specs.Sheet.{isShaped, maxRecords, recordStart, recordCount, recordsFrom, leastFaulty}
 use Rattle.model.specs.BoardBytes.{boardLength, answerLength, clockOf}
-use Rattle.model.specs.Outcome.{Lent, Row, firstRow, sheetRows, lengthsRows, boardRows, answersRows, faultIndex, recordsRows}
+use Rattle.model.specs.Outcome.{Lent, Row, row, byRow, firstRow, sheetRows, lengthsRows, boardRows, answersRows}
+use Rattle.model.specs.Outcome.{roomRows, faultIndex, recordsRows}
 use Rattle.model.specs.Outcome.{sizesFit, verdict, refusalIndex, Outcome, outcomeBy, outcome}
 use Rattle.model.specs.Laws.Places.{sizesSmall, Sized, small-sized}
-use Rattle.model.specs.Laws.Choice.{parts}
+use Rattle.model.specs.Tariff.{Tariffed, Billed, sharesRows, rateRows, tariffVerdict, billBy, bill}
+use Rattle.model.specs.Laws.Choice.{parts, or-true-right, or-false}
 use Rattle.model.specs.Laws.Sound.{SoundClock}
 use Rattle.model.specs.Laws.Codec.{sound-formed}
 use Rattle.model.specs.Laws.Rows.{orElse, row-holds, row-passes, first-append, accepts-none}
-use Rattle.model.specs.Laws.Refusal.{NoFault, FirstFault, Acceptable, accepted-acceptable, table, index}
+use Rattle.model.specs.Laws.Refusal.{NoFault, FirstFault, Acceptable, accepted-acceptable, table, Index, index}
 use Rattle.model.specs.Laws.Fits.{sound-clock}
+use Rattle.model.specs.Laws.Billed.{tariff-table, tariff-index}
 use Rattle.model.specs.declared.Lengths.{Lengths}
 use Rattle.model.specs.declared.Refusal.{Refusal}
 use Rattle.model.specs.declared.Refusal.the-variants.{BadMark, BadVersion, BadShape, BadLengths}
-use Rattle.model.specs.declared.Refusal.the-variants.{UnsoundBoard, ShortAnswers, FaultyRecord}
+use Rattle.model.specs.declared.Refusal.the-variants.{UnsoundBoard, ShortAnswers, FaultyRecord, BadRate}
 use Rattle.model.specs.declared.Verdict.{Verdict}
 use Rattle.model.specs.declared.Verdict.the-variants.{Accepted, Refused}
 use Rattle.examine.specs.Lent.{lending}
@@ -43,15 +46,38 @@ passed xs ys e a = first-append xs ys ∙ ap (λ (v : Verdict). orElse v (firstR
 pub stopped : (xs ys : List Row) {v : Verdict} {q : Refusal} → v ≡ firstRow xs → v ≡ Refused q → v ≡ firstRow (xs ++ ys)
 stopped xs ys e r = r ∙ sym (first-append xs ys ∙ ap (λ (v : Verdict). orElse v (firstRow ys)) (sym e ∙ r))
 
--- what is left of the run's table behind its first part, its second, and so on
+-- of the first five rows of every table, those behind the sheet's
+abbrev pub behind-sheet : Lent → List Row
+behind-sheet i = lengthsRows (i .lengths) (length (i .store)) (length (i .bios)) (length (i .rom)) ++ boardRows (i .board)
+
+-- what is left of the run's table behind its first five rows, and of the tariff's
 abbrev pub fromAnswers : Lent → List Row
 fromAnswers i = answersRows (recordCount (i .sheet)) (length (i .answers)) ++ recordsRows (i .sheet)
 
-abbrev pub fromBoard : Lent → List Row
-fromBoard i = boardRows (i .board) ++ fromAnswers i
+abbrev pub fromRecords : Tariffed → List Row
+fromRecords t = recordsRows (t .run .sheet) ++ rateRows (t .rate)
 
-abbrev pub fromLengths : Lent → List Row
-fromLengths i = lengthsRows (i .lengths) (length (i .store)) (length (i .bios)) (length (i .rom)) ++ fromBoard i
+abbrev pub fromRoom : Tariffed → List Row
+fromRoom t = sharesRows t ++ fromRecords t
+
+-- ---- the row of the room
+
+-- n records, and so many bytes for each that their product doesn't wrap
+pub record RoomAsked (n each : ℕ) : Type 0 where
+  pub few : n ≤ maxRecords
+  pub narrow : each ≤ 0xFFFF
+
+-- a second buffer that is too short decides, and one that is long enough leaves it to the answers
+pub too-narrow : (n answers each second : ℕ) → second < each * n
+    → Refused ShortAnswers ≡ firstRow (roomRows n answers each second)
+too-narrow n answers each second h =
+    sym (row-holds _ _ (or-true-right (ltb answers (answerLength * n)) _ (lt-ltb second (each * n) h)))
+
+pub wide-enough : (n answers each second : ℕ) → each * n ≤ second
+    → firstRow (answersRows n answers) ≡ firstRow (roomRows n answers each second)
+wide-enough n answers each second h =
+    ap (λ (short : Bool). byRow (row short ShortAnswers) Accepted)
+    (sym (or-false (ltb answers (answerLength * n)) _ (le-ltb second (each * n) h)))
 
 -- ---- the row of the records, from the record that was found
 
@@ -119,26 +145,42 @@ ready i e =
       clock = λ b. sound-clock (i .board) b (a .board);
     }
 
--- a sheet that was examined has its shape
-pub sheet-shaped : (s : List ℕ) {v : Verdict} → v ≡ firstRow (sheetRows s) → v ≡ Accepted → Shaped s
-sheet-shaped s e a = shaped s (not-false (isShaped s) ((accepts-none (sheetRows s) (sym e ∙ a)) .1 .1 .0))
+-- a sheet that was examined, with whatever else, has its shape
+pub sheet-shaped : (s : List ℕ) (more : List Row) {v : Verdict} → v ≡ firstRow (sheetRows s ++ more) → v ≡ Accepted → Shaped s
+sheet-shaped s more e a = shaped s (not-false (isShaped s) ((accepts-none (sheetRows s ++ more) (sym e ∙ a)) .1 .1 .0))
 
-few-faulty : (i : Lent) (k : ℕ) → verdict i ≡ Refused (FaultyRecord k) → k ≤ maxRecords
-unfolding outcome
-few-faulty i k e =
-    let o = ap (outcomeBy i) e in
-    let seven : (outcomeBy i (verdict i)) .number ≡ 7 = ap (λ (x : Outcome). x .number) o in
-    let d = (table i) .records .0 seven in
-    let f : FirstFault (i .sheet) ((outcomeBy i (verdict i)) .index) = (index i) .faulty-record seven in
-    let s : Shaped (i .sheet) = shaped (i .sheet) (not-false (isShaped (i .sheet)) (d .1 .1 .0)) in
-    omega (arith, f .within, ap (λ (x : Outcome). x .index) o, s .few)
+-- ---- a refusal's index fits: it is 0 or that of a record
 
--- the index of a refusal is 0 or that of a record
+small-index : (r : Refusal) → ((k : ℕ) → r ≡ FaultyRecord k → k ≤ maxRecords) → refusalIndex r ≤ maxRecords
+small-index BadMark h = omega arith
+small-index BadVersion h = omega arith
+small-index BadShape h = omega arith
+small-index BadLengths h = omega arith
+small-index UnsoundBoard h = omega arith
+small-index ShortAnswers h = omega arith
+small-index (FaultyRecord k) h = h k refl
+small-index BadRate h = omega arith
+
+-- the faulty record of a sheet that has its shape
+few-faulty : (i : Lent) (o : Outcome) → Index i o → not (isShaped (i .sheet)) ≡ false → o .number ≡ 7 → o .index ≤ maxRecords
+few-faulty i o x e seven =
+    let f : FirstFault (i .sheet) (o .index) = x .faulty-record seven in
+    omega (arith, f .within, (shaped (i .sheet) (not-false (isShaped (i .sheet)) e)) .few)
+
 pub index-small : (i : Lent) (r : Refusal) → verdict i ≡ Refused r → refusalIndex r ≤ maxRecords
-index-small i BadMark e = omega arith
-index-small i BadVersion e = omega arith
-index-small i BadShape e = omega arith
-index-small i BadLengths e = omega arith
-index-small i UnsoundBoard e = omega arith
-index-small i ShortAnswers e = omega arith
-index-small i (FaultyRecord k) e = few-faulty i k e
+unfolding outcome
+index-small i r e =
+    small-index r λ k z.
+    let o : outcome i ≡ outcomeBy i (Refused (FaultyRecord k)) = ap (outcomeBy i) (e ∙ ap (λ (q : Refusal). Refused q) z) in
+    let seven : (outcome i) .number ≡ 7 = ap (λ (x : Outcome). x .number) o in
+    rw (ap (λ (x : Outcome). x .index) o)
+    at (few-faulty i (outcome i) (index i) (((table i) .records .0 seven) .1 .1 .0) seven)
+
+pub tariff-index-small : (t : Tariffed) (r : Refusal) → tariffVerdict t ≡ Refused r → refusalIndex r ≤ maxRecords
+unfolding bill
+tariff-index-small t r e =
+    small-index r λ k z.
+    let o : bill t ≡ billBy t (Refused (FaultyRecord k)) = ap (billBy t) (e ∙ ap (λ (q : Refusal). Refused q) z) in
+    let seven : (bill t) .run .number ≡ 7 = ap (λ (x : Billed). x .run .number) o in
+    rw (ap (λ (x : Billed). x .run .index) o)
+    at (few-faulty (t .run) ((bill t) .run) (tariff-index t) (((tariff-table t) .row 6 (lit< tt) .0 seven) .1 .1 .0) seven)

@@ -1,15 +1,21 @@
-// What is examined before a run: the seven refusals, in the order of document 01's table. Nothing is written here.
+// What is examined before a run: the refusals, in the order of document 01's table, and the tariff's. Nothing is written here.
 use model::ANSWER_LENGTH;
 use model::Lengths;
+use model::MAX_RATE;
 use model::Refusal;
+use model::SHARE_LENGTH;
 use model::VERSION;
 use model::Verdict;
 use records::sheet;
 ghost use mathlib.Core.Path.{_≡_};
+ghost use mathlib.Core.List.{_++_};
 ghost use Prim.Native.Nat.{_≤_};
 ghost use Rattle.model.specs.Sheet.{maxRecords};
 ghost use Rattle.model.specs.Outcome as def;
-ghost use Rattle.examine.specs.Verdicts.{Shaped, Examined};
+ghost use Rattle.model.specs.Tariff as tariff;
+ghost use Rattle.model.specs.Laws.Rows.{orElse};
+ghost use Rattle.examine.specs.Lent.{lending, tariffing};
+ghost use Rattle.examine.specs.Verdicts.{Shaped, RoomAsked, Examined};
 
 // No memory is longer than its physical size, and the seven add up to the store. Each is tested before they are added, so
 // that no sum wraps.
@@ -98,6 +104,52 @@ pub fn examine_records(sheet: &[u8]) -> Verdict
     Verdict::Accepted
 }
 
+// Room for the answers of n records, and for `each` bytes a record in a second buffer.
+pub fn examine_room(n: usize, answers: usize, each: usize, second: usize) -> Verdict
+    requires { ⌜ RoomAsked n each ⌝ }
+    ensures { λ r. ⌜ r ≡ def.firstRow (def.roomRows n answers each second) ⌝ }
+{
+    if second < each * n {
+        return Verdict::Refused(Refusal::ShortAnswers);
+    }
+    examine_answers(n, answers)
+}
+
+// The rate of a tariff.
+pub fn examine_rate(rate: u32) -> Verdict
+    ensures { λ r. ⌜ r ≡ def.firstRow (tariff.rateRows rate) ⌝ }
+{
+    if (rate == 0) | (rate > MAX_RATE) {
+        return Verdict::Refused(Refusal::BadRate);
+    }
+    Verdict::Accepted
+}
+
+// ---- the tables
+
+// The rows with which the table of every run begins: the sheet's head, the lengths, the board.
+pub fn examine_lent(
+    sheet: &[u8],
+    board: &[u8],
+    lengths: Lengths,
+    store: usize,
+    bios: usize,
+    rom: usize,
+) -> Verdict
+    ensures { λ r. ⌜ r ≡ def.firstRow (def.sheetRows (now (sheet .entry))
+        ++ (def.lengthsRows lengths store bios rom ++ def.boardRows (now (board .entry)))) ⌝ }
+{
+    let shape = examine_sheet(sheet);
+    let Verdict::Accepted = shape else {
+        return shape;
+    };
+    let sizes = examine_lengths(lengths, store, bios, rom);
+    let Verdict::Accepted = sizes else {
+        return sizes;
+    };
+    examine_board(board)
+}
+
 // The first row of the run's table that holds.
 pub fn examine(
     sheet: &[u8],
@@ -111,23 +163,54 @@ pub fn examine(
     ensures { λ r. ⌜ Examined (now (sheet .entry)) (now (board .entry)) (now (store .entry))
         (now (bios .entry)) (now (rom .entry)) (now (answers .entry)) lengths r ⌝ }
 {
-    let shape = examine_sheet(sheet);
-    let Verdict::Accepted = shape else {
-        return shape;
-    };
-    let sizes = examine_lengths(lengths, store.len(), bios.len(), rom.len());
-    let Verdict::Accepted = sizes else {
-        return sizes;
-    };
-    let sound = examine_board(board);
-    let Verdict::Accepted = sound else {
-        return sound;
+    let lent = examine_lent(sheet, board, lengths, store.len(), bios.len(), rom.len());
+    let Verdict::Accepted = lent else {
+        return lent;
     };
     let room = examine_answers(sheet::record_count(sheet), answers.len());
     let Verdict::Accepted = room else {
         return room;
     };
     examine_records(sheet)
+}
+
+// One verdict, or where it accepts another.
+fn or_else(first: Verdict, second: Verdict) -> Verdict
+    ensures { λ r. ⌜ r ≡ orElse first second ⌝ }
+{
+    match first {
+        Verdict::Accepted => second,
+        Verdict::Refused(refusal) => Verdict::Refused(refusal),
+    }
+}
+
+// The first row of the tariff's table that holds: the run's, with room for the shares, and then the rate.
+pub fn examine_tariff(
+    sheet: &[u8],
+    board: &[u8],
+    store: &[u8],
+    bios: &[u8],
+    rom: &[u8],
+    answers: &[u8],
+    shares: &[u8],
+    lengths: Lengths,
+    rate: u32,
+) -> Verdict
+    ensures { λ r. ⌜ r ≡ tariff.tariffVerdict (tariffing (lending (now (sheet .entry)) (now (board .entry)) (now (store .entry))
+        (now (bios .entry)) (now (rom .entry)) (now (answers .entry)) lengths) (now (shares .entry)) rate) ⌝ }
+{
+    let lent = examine_lent(sheet, board, lengths, store.len(), bios.len(), rom.len());
+    let Verdict::Accepted = lent else {
+        return lent;
+    };
+    let n = sheet::record_count(sheet);
+    let room = examine_room(n, answers.len(), SHARE_LENGTH, shares.len());
+    let Verdict::Accepted = room else {
+        return room;
+    };
+    let records = examine_records(sheet);
+    let fair = examine_rate(rate);
+    or_else(records, fair)
 }
 
 // Document 01's number of a refusal.
@@ -142,6 +225,7 @@ pub fn refusal_number(r: Refusal) -> u32
         Refusal::UnsoundBoard => 5,
         Refusal::ShortAnswers => 6,
         Refusal::FaultyRecord(_) => 7,
+        Refusal::BadRate => 8,
     }
 }
 
@@ -157,5 +241,6 @@ pub fn refusal_index(r: Refusal) -> usize
         Refusal::UnsoundBoard => 0,
         Refusal::ShortAnswers => 0,
         Refusal::FaultyRecord(k) => k,
+        Refusal::BadRate => 0,
     }
 }

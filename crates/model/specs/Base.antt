@@ -1,6 +1,6 @@
 -- Words that all the definitions use: a choice by a test, sums, and numbers as bytes.
 use mathlib.Core.Bool.{Bool, true, false}
-use mathlib.Core.List.{List, [], _∷_, _++_}
+use mathlib.Core.List.{List, [], _∷_, _++_, map}
 use Prim.Native.Nat.{ℕ, zero, suc, _+_, _*_, _/_, _%_, _^_, _<_}
 use lib.ListN.{getD}
 
@@ -55,6 +55,11 @@ abbrev pub number : ℕ → List ℕ → ℕ → ℕ
 number zero b i = 0
 number (suc n) b i = byteAt b i + 256 * number n b (i + 1)
 
+-- `n` numbers of `w` bytes each, one behind the other from place `i` on
+abbrev pub numbersFrom : ℕ → List ℕ → ℕ → ℕ → List ℕ
+numbersFrom w b i zero = []
+numbersFrom w b i (suc n) = number w b i ∷ numbersFrom w b (i + w) n
+
 -- a list of bytes: what a lent slice of u8 is
 abbrev pub AllBytes : List ℕ → Type 0
 AllBytes b = (i : ℕ) → byteAt b i < 256
@@ -71,3 +76,7 @@ field n v = record { width = n; value = v }
 abbrev pub encoded : List Field → List ℕ
 encoded [] = []
 encoded (f ∷ fs) = bytes (f .width) (f .value) ++ encoded fs
+
+-- numbers of `w` bytes each, one after the other
+abbrev pub numbersBytes : ℕ → List ℕ → List ℕ
+numbersBytes w xs = encoded (map (field w) xs)

@@ -5,7 +5,7 @@ use mathlib.Core.List.{List, [], _∷_, _++_, map}
 use Prim.Native.Nat.{ℕ, zero, suc, _+_, _-_, _*_, _/_, _%_}
 use lib.ListN.{length, replicate}
 use lib.Dec.{eqb, leb}
-use Rattle.model.specs.Base.{if_then_else_, bit, same, byteAt, number, Field, field, encoded}
+use Rattle.model.specs.Base.{if_then_else_, bit, same, byteAt, number, numbersFrom, Field, field, encoded, numbersBytes}
 use Rattle.model.specs.Waitcnt.{prefetchEnable}
 use Rattle.model.specs.Wait.{inWindow}
 use Rattle.model.specs.Prefetch.{newBuffer}
@@ -47,8 +47,7 @@ clockOf b =
 
 -- n halfwords from place i on
 abbrev pub halvesFrom : List ℕ → ℕ → ℕ → List ℕ
-halvesFrom b i zero = []
-halvesFrom b i (suc n) = number 2 b i ∷ halvesFrom b (i + 2) n
+halvesFrom b i n = numbersFrom 2 b i n
 
 unfoldable pub contentsOf : List ℕ → Contents
 contentsOf b =
@@ -97,7 +96,7 @@ contentsFields d =
 
 unfoldable pub boardBytes : Board → List ℕ
 boardBytes b =
-    encoded (clockFields (b .clock)) ++ (encoded (map (field 2) (b .halves)) ++ encoded (contentsFields (b .contents)))
+    encoded (clockFields (b .clock)) ++ (numbersBytes 2 (b .halves) ++ encoded (contentsFields (b .contents)))
 
 -- ---- the board whose bytes are all zero
 

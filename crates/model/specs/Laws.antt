@@ -26,3 +26,5 @@ pub mod Refusal
 pub mod Fits
 pub mod Demand3
 pub mod Told
+pub mod Charge
+pub mod Billed

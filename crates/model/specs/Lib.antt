@@ -17,4 +17,5 @@ pub mod Sheet
 pub mod BoardBytes
 pub mod Outcome
 pub mod Alike
+pub mod Tariff
 pub mod Laws

@@ -1,6 +1,6 @@
 -- What the run gives back, and what it leaves: one function of all that is lent.
 -- From document 01, "What the run gives back".
-use mathlib.Core.Bool.{Bool, not, _&&_}
+use mathlib.Core.Bool.{Bool, not, _&&_, _||_}
 use mathlib.Core.List.{List, [], _∷_, _++_}
 use Prim.Native.Nat.{ℕ, _+_, _*_}
 use lib.ListN.{length, drop}
@@ -14,7 +14,7 @@ use Rattle.model.specs.BoardBytes.{answerLength, boardOf, boardBytes, so
 use Rattle.model.specs.declared.Lengths.{Lengths}
 use Rattle.model.specs.declared.Refusal.{Refusal}
 use Rattle.model.specs.declared.Refusal.the-variants.{BadMark, BadVersion, BadShape, BadLengths}
-use Rattle.model.specs.declared.Refusal.the-variants.{UnsoundBoard, ShortAnswers, FaultyRecord}
+use Rattle.model.specs.declared.Refusal.the-variants.{UnsoundBoard, ShortAnswers, FaultyRecord, BadRate}
 use Rattle.model.specs.declared.Verdict.{Verdict}
 use Rattle.model.specs.declared.Verdict.the-variants.{Accepted, Refused}
 
@@ -89,6 +89,10 @@ boardRows b = row (not (sound b)) UnsoundBoard ∷ []
 abbrev pub answersRows : ℕ → ℕ → List Row
 answersRows n answers = row (ltb answers (answerLength * n)) ShortAnswers ∷ []
 
+-- the same with a second buffer, which has `each` bytes a record
+abbrev pub roomRows : ℕ → ℕ → ℕ → ℕ → List Row
+roomRows n answers each second = row (ltb answers (answerLength * n) || ltb second (each * n)) ShortAnswers ∷ []
+
 -- the first record that breaks the record layout or the table of kinds, if one does
 abbrev pub faultIndex : List ℕ → ℕ
 faultIndex s = leastFaulty (recordsOf s)
@@ -96,19 +100,21 @@ faultIndex s = leastFaulty (recordsOf s)
 abbrev pub recordsRows : List ℕ → List Row
 recordsRows s = row (ltb (faultIndex s) (recordCount s)) (FaultyRecord (faultIndex s)) ∷ []
 
--- in the table's order
-abbrev pub rows : Lent → List Row
-rows i =
+-- rows 1 to 5, with which the table of every run begins
+abbrev pub lentRows : Lent → List Row
+lentRows i =
     sheetRows (i .sheet)
     ++ (lengthsRows (i .lengths) (length (i .store)) (length (i .bios)) (length (i .rom))
-    ++ (boardRows (i .board)
-    ++ (answersRows (recordCount (i .sheet)) (length (i .answers))
-    ++ recordsRows (i .sheet))))
+    ++ boardRows (i .board))
+
+-- in the table's order
+abbrev pub rows : Lent → List Row
+rows i = lentRows i ++ (answersRows (recordCount (i .sheet)) (length (i .answers)) ++ recordsRows (i .sheet))
 
 unfoldable pub verdict : Lent → Verdict
 verdict i = firstRow (rows i)
 
--- document 01's number of a refusal, and its index
+-- the documents' number of a refusal, and its index
 abbrev pub refusalNumber : Refusal → ℕ
 refusalNumber BadMark = 1
 refusalNumber BadVersion = 2
@@ -117,6 +123,7 @@ refusalNumber BadLengths = 4
 refusalNumber UnsoundBoard = 5
 refusalNumber ShortAnswers = 6
 refusalNumber (FaultyRecord k) = 7
+refusalNumber BadRate = 8
 
 abbrev pub refusalIndex : Refusal → ℕ
 refusalIndex BadMark = 0
@@ -126,6 +133,7 @@ refusalIndex BadLengths = 0
 refusalIndex UnsoundBoard = 0
 refusalIndex ShortAnswers = 0
 refusalIndex (FaultyRecord k) = k
+refusalIndex BadRate = 0
 
 -- a verdict's number: 0 where nothing is refused
 abbrev pub verdictNumber : Verdict → ℕ

@@ -289,6 +289,9 @@ run m s (x ∷ xs) =
     let r = run m (stepped m s x) xs in
     record { answers = answer m s x ∷ r .answers; state = r .state }
 
--- the total is the sum of the cycles
+-- the cycles of each step, and the total, which is their sum
+abbrev pub cyclesOf : Result → List ℕ
+cyclesOf r = map (λ (x : Answer). x .cycles) (r .answers)
+
 abbrev pub total : Result → ℕ
-total r = sum (map (λ (x : Answer). x .cycles) (r .answers))
+total r = sum (cyclesOf r)

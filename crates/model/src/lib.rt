@@ -138,6 +138,9 @@ pub const RECORD_LENGTH: usize = 12;
 
 pub const ANSWER_LENGTH: usize = 12;
 
+// A step's share of the charge (W-202).
+pub const SHARE_LENGTH: usize = 8;
+
 pub const BOARD_LENGTH: usize = 72;
 
 // The most records of a sheet.
@@ -145,6 +148,14 @@ pub const MAX_RECORDS: usize = 4096;
 
 // The version of a sheet.
 pub const VERSION: u16 = 1;
+
+// ---- added: the contract's tariff (W-202)
+
+// A rate is in cents for this many cycles.
+pub const RATE_CYCLES: u64 = 1_000_000;
+
+// The highest rate: a cent a cycle.
+pub const MAX_RATE: u32 = 1_000_000;
 
 // ---- added: a step, and the state that a run carries
 
@@ -274,7 +285,8 @@ pub struct Answer {
 
 // ---- added: what the run gives back
 
-// The seven refusals, in the order in which they are looked for; the last holds the faulty record's index.
+// The refusals, in the order in which they are looked for; a faulty record's holds its index. The first seven are the run's,
+// the last is the tariff's (W-202).
 pub enum Refusal {
     BadMark,
     BadVersion,
@@ -283,6 +295,7 @@ pub enum Refusal {
     UnsoundBoard,
     ShortAnswers,
     FaultyRecord(usize),
+    BadRate,
 }
 
 pub enum Verdict {

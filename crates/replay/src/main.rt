@@ -1,25 +1,25 @@
-// Replays recorded runs: reads a sample of cases with the Rust's answers from standard input, does each by `bts_run`, tells
-// each field that differs, as `case 17: board`, and at the end how many cases agree. A case's number is its place in the
-// sample, from 0 on: case 17 is `sample:17` of tests/against-rust.
+// Replays recorded runs: reads a sample of cases with the Rust's answers from standard input, does each by `bts_run` or by
+// `bts_run_tariff`, tells each field that differs, as `case 17: board`, and at the end how many cases agree. A case's number is
+// its place in the sample, from 0 on: case 17 is `sample:17` of tests/against-rust.
 //
 // The sample, the file `stdin`, was recorded by `tests/against-rust/run --record crates/replay/stdin` from the Rust at commit
 // 46607fe0ef, built unchanged but for a way to its prefetch's private fields. tests/against-rust/README.md has the format. Its
-// 489 cases are the worked figures' lists; random lists over memories of 0, 1, odd and other lengths; sound boards that no
+// 589 cases are the worked figures' lists; random lists over memories of 0, 1, odd and other lengths; sound boards that no
 // list of steps leads to, among them counters near 2^64 - 1; fills across each window edge, and one stopped after each number
 // of cycles; each refusal alone and each two of them; each way to break a board, boards of other lengths, and random damage;
 // each kind of record with each field wrong; lists of 0, 1, 4,096 and 4,097 records; every edge over full memories, those
-// where addresses wrap included; stores across each memory's end, at lengths of each residue modulo 4; and each memory one byte
-// too long.
+// where addresses wrap included; stores across each memory's end, at lengths of each residue modulo 4; each memory one byte too
+// long; and 100 runs under a tariff, from one rounding edge to the next, with each refusal alone and each two of them.
 mod pattern;
 
-use bts::Report;
+use bts::Bill;
 use le::word_at;
 use libc::STDIN_FILENO;
 use libc::STDOUT_FILENO;
 use model::Lengths;
 ghost use mathlib.Core.Path.{_≡_};
 ghost use Prim.Native.Nat.{_+_, _*_, _≤_};
-ghost use Rattle.replay.specs.Head.{headFits, headLengths};
+ghost use Rattle.replay.specs.Head.{headFits, headLengths, headAsked};
 
 // How a case, or a part of it, came out: whether the sample had all of it, and whether nothing differed.
 struct Found {
@@ -59,7 +59,8 @@ fn told(case: u32, what: &[u8], same: bool) -> bool
     same
 }
 
-// The head of a case has 14 numbers of four bytes: six lengths of what is lent, the seven of the memories, and the seed.
+// The head of a case has 17 numbers of four bytes: six lengths of what is lent, the seven of the memories, the seed, the length
+// of the shares, the operation and the rate.
 fn lengths_of(head: &[u8]) -> Lengths
     ensures { λ r. ⌜ r ≡ headLengths (now (head .entry)) ⌝ }
 {
@@ -74,13 +75,33 @@ fn lengths_of(head: &[u8]) -> Lengths
     }
 }
 
+// What a case does, and from which seed its buffers are made.
+struct Asked {
+    seed: u32,
+    operation: u32,
+    rate: u32,
+}
+
+// The operation of a run under a tariff; any other is a run.
+const TARIFF: u32 = 1;
+
+fn asked_of(head: &[u8]) -> Asked
+    ensures { λ r. ⌜ r ≡ headAsked (now (head .entry)) ⌝ }
+{
+    Asked {
+        seed: word_at(head, 52),
+        operation: word_at(head, 60),
+        rate: word_at(head, 64),
+    }
+}
+
 fn doubleword(low: u32, high: u32) -> u64
     ensures { λ r. ⌜ r ≡ low + high * 4294967296 ⌝ }
 {
     low as u64 + high as u64 * 0x1_0000_0000
 }
 
-fn compare_report(case: u32, got: Report) -> Found {
+fn compare_report(case: u32, got: Bill) -> Found {
     let mut want = [0u8; 16];
     if io::read_full(STDIN_FILENO, &mut want) < 16 {
         return bad_sample();
@@ -95,7 +116,19 @@ fn compare_report(case: u32, got: Report) -> Found {
     }
 }
 
-// No board and no answers of the sample are longer than this.
+fn compare_charge(case: u32, got: u64) -> Found {
+    let mut want = [0u8; 8];
+    if io::read_full(STDIN_FILENO, &mut want) < 8 {
+        return bad_sample();
+    }
+    let charge = doubleword(word_at(&want, 0), word_at(&want, 4));
+    Found {
+        whole: true,
+        same: told(case, b"charge", got == charge),
+    }
+}
+
+// No board, no answers and no shares of the sample are longer than this.
 const MOST_COMPARED: usize = 49164;
 
 fn compare_bytes(case: u32, what: &[u8], got: &[u8]) -> Found {
@@ -168,6 +201,7 @@ fn set_up(
     bios: &mut [u8],
     rom: &mut [u8],
     answers: &mut [u8],
+    shares: &mut [u8],
     seed: u32,
 ) -> bool {
     if io::read_full(STDIN_FILENO, sheet) < sheet.len() {
@@ -180,9 +214,11 @@ fn set_up(
     pattern::fill(bios, seed, pattern::BIOS);
     pattern::fill(rom, seed, pattern::ROM);
     pattern::fill(answers, seed, pattern::ANSWERS);
+    pattern::fill(shares, seed, pattern::SHARES);
     true
 }
 
+// Does what the case asks. A run without a tariff is told as a bill that charges nothing.
 fn run(
     sheet: &[u8],
     board: &mut [u8],
@@ -190,9 +226,30 @@ fn run(
     bios: &[u8],
     rom: &[u8],
     answers: &mut [u8],
+    shares: &mut [u8],
     x: Lengths,
-) -> Report {
-    bts::bts_run(
+    asked: Asked,
+) -> Bill {
+    if asked.operation == TARIFF {
+        return bts::bts_run_tariff(
+            sheet,
+            board,
+            store,
+            bios,
+            rom,
+            answers,
+            shares,
+            x.ewram,
+            x.iwram,
+            x.io,
+            x.palette,
+            x.vram,
+            x.oam,
+            x.sram,
+            asked.rate,
+        );
+    }
+    let report = bts::bts_run(
         sheet,
         board,
         store,
@@ -206,23 +263,63 @@ fn run(
         x.vram,
         x.oam,
         x.sram,
-    )
+    );
+    Bill {
+        number: report.number,
+        index: report.index,
+        total: report.total,
+        charge: 0,
+    }
 }
 
 // Compares what a run left, in the sample's order.
 fn compare(
     case: u32,
-    report: Report,
+    bill: Bill,
     board: &[u8],
     store: &mut [u8],
     answers: &[u8],
+    shares: &[u8],
     seed: u32,
 ) -> Found {
-    let first = compare_report(case, report);
-    let second = compare_bytes(case, b"board", board);
-    let third = compare_bytes(case, b"answers", answers);
-    let fourth = compare_store(case, store, seed);
-    both(both(first, second), both(third, fourth))
+    let first = compare_report(case, bill);
+    let second = compare_charge(case, bill.charge);
+    let third = compare_bytes(case, b"board", board);
+    let fourth = compare_bytes(case, b"answers", answers);
+    let fifth = compare_bytes(case, b"shares", shares);
+    let sixth = compare_store(case, store, seed);
+    both(
+        both(both(first, second), both(third, fourth)),
+        both(fifth, sixth),
+    )
+}
+
+// A case that is set up.
+fn replay_ready(
+    case: u32,
+    sheet: &[u8],
+    board: &mut [u8],
+    store: &mut [u8],
+    bios: &[u8],
+    rom: &[u8],
+    answers: &mut [u8],
+    shares: &mut [u8],
+    lengths: Lengths,
+    asked: Asked,
+) -> Found {
+    let seed = asked.seed;
+    let bill = run(
+        sheet,
+        board,
+        store,
+        bios,
+        rom,
+        answers,
+        shares,
+        lengths,
+        asked,
+    );
+    compare(case, bill, board, store, answers, shares, seed)
 }
 
 // A case whose buffers have the lengths that the sample says.
@@ -234,14 +331,26 @@ fn replay_lent(
     bios: &mut [u8],
     rom: &mut [u8],
     answers: &mut [u8],
+    shares: &mut [u8],
     lengths: Lengths,
-    seed: u32,
+    asked: Asked,
 ) -> Found {
-    if !set_up(sheet, board, store, bios, rom, answers, seed) {
+    let seed = asked.seed;
+    if !set_up(sheet, board, store, bios, rom, answers, shares, seed) {
         return bad_sample();
     }
-    let report = run(sheet, board, store, bios, rom, answers, lengths);
-    compare(case, report, board, store, answers, seed)
+    replay_ready(
+        case,
+        sheet,
+        board,
+        store,
+        bios,
+        rom,
+        answers,
+        shares,
+        lengths,
+        asked,
+    )
 }
 
 // Whether a case lends no more than the buffers below have.
@@ -254,6 +363,7 @@ fn fits(head: &[u8]) -> bool
         & (word_at(head, 12) <= 16385)
         & (word_at(head, 16) <= 131136)
         & (word_at(head, 20) <= 49164)
+        & (word_at(head, 56) <= 32776)
 }
 
 fn at_most(n: u32, most: usize) -> usize
@@ -275,13 +385,16 @@ fn replay_headed(case: u32, head: &[u8]) -> Found {
     let mut bios = [0u8; 16385];
     let mut rom = [0u8; 131136];
     let mut answers = [0u8; 49164];
+    let mut shares = [0u8; 32776];
     let a = at_most(word_at(head, 0), 49172);
     let b = at_most(word_at(head, 4), 144);
     let c = at_most(word_at(head, 8), 462853);
     let d = at_most(word_at(head, 12), 16385);
     let e = at_most(word_at(head, 16), 131136);
     let f = at_most(word_at(head, 20), 49164);
+    let g = at_most(word_at(head, 56), 32776);
     let memories = lengths_of(head);
+    let asked = asked_of(head);
     replay_lent(
         case,
         &mut sheet[0..a],
@@ -290,14 +403,15 @@ fn replay_headed(case: u32, head: &[u8]) -> Found {
         &mut bios[0..d],
         &mut rom[0..e],
         &mut answers[0..f],
+        &mut shares[0..g],
         memories,
-        word_at(head, 52),
+        asked,
     )
 }
 
 fn replay_case(case: u32) -> Found {
-    let mut head = [0u8; 56];
-    if io::read_full(STDIN_FILENO, &mut head) < 56 {
+    let mut head = [0u8; 68];
+    if io::read_full(STDIN_FILENO, &mut head) < 68 {
         return bad_sample();
     }
     replay_headed(case, &head)

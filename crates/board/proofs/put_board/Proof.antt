@@ -3,7 +3,7 @@ use mathlib.Core.List.{[], _∷_}
 use native.Mathlib.Omega.{arith}
 use borrow.Author.Needs.{needs}
 use Rattle.model.specs.BoardBytes.{boardBytes}
-use Rattle.model.specs.Laws.Codec.{halfBytes-length}
+use Rattle.model.specs.Laws.Codec.{numbers-length}
 use Rattle.le.proofs.Written.{filled, lent, sized}
 use Rattle.board.proofs.put_board.Statement.{statement}
 use Rattle.board.proofs.put_board.Tie as tie
@@ -28,7 +28,7 @@ returns c =
     let two = halves three in
     let one = clock two in
     let s = entry one in
-    let middle = sized 16 (two .put-halves .ensures) (omega (arith, halfBytes-length (s .args .halves))) in
+    let middle = sized 16 (two .put-halves .ensures) (omega (arith, numbers-length 2 (s .args .halves))) in
     filled (s .args .board .now)
     (lent (one .put-clock .ensures) ∷ middle ∷ lent (three .put-contents .ensures) ∷ [])
     (s .pre)

@@ -8,30 +8,27 @@ use lib.ListN.{length, getD, take}
 use lib.Seq.{take-all, take-suc}
 use borrow.Author.Needs.{needs}
 use borrow.Rule.Slice.PartMut.{putMid}
-use Rattle.model.specs.Base.{bytes}
-use Rattle.model.specs.Laws.Codec.{halfBytes}
+use Rattle.model.specs.Base.{bytes, numbersBytes}
+use Rattle.model.specs.Laws.Codec.{numbers-snoc}
 use Rattle.le.proofs.Written.{Begun, begin, next, written}
 use Rattle.board.proofs.put_halves.Statement.{statement}
 use Rattle.board.proofs.put_halves.Tie as tie
 
-half-snoc : (hs : List ℕ) (h : ℕ) → halfBytes (hs ++ (h ∷ [])) ≡ halfBytes hs ++ bytes 2 h
-half-snoc [] h = refl
-half-snoc (g ∷ hs) h = ap (λ (t : List ℕ). bytes 2 g ++ t) (half-snoc hs h)
-
-half-more : (hs : List ℕ) (i : ℕ) → i < length hs → halfBytes (take (i + 1) hs) ≡ halfBytes (take i hs) ++ bytes 2 (getD hs i 0)
-half-more hs i h = rw (add-one, take-suc hs i 0) (half-snoc (take i hs) (getD hs i 0))
+half-more : (hs : List ℕ) (i : ℕ) → i < length hs
+    → numbersBytes 2 (take (i + 1) hs) ≡ numbersBytes 2 (take i hs) ++ bytes 2 (getD hs i 0)
+half-more hs i h = rw (add-one, take-suc hs i 0) (numbers-snoc 2 (take i hs) (getD hs i 0))
 
 -- one halfword more
 half-next : {n : ℕ} {l x : List ℕ} (hs : List ℕ) (i : ℕ) → i < length hs → 2 * i + 2 ≤ n → x ≡ bytes 2 (getD hs i 0)
-    → Begun n l (2 * i) (halfBytes (take i hs))
-    → Begun n (putMid (2 * i) (2 * i + 2 - 2 * i) l x) (2 * (i + 1)) (halfBytes (take (i + 1) hs))
+    → Begun n l (2 * i) (numbersBytes 2 (take i hs))
+    → Begun n (putMid (2 * i) (2 * i + 2 - 2 * i) l x) (2 * (i + 1)) (numbersBytes 2 (take (i + 1) hs))
 half-next hs i h m e g =
     let z : 2 * i + 2 - 2 * i ≡ 2 = omega arith in
     let a : 2 * (i + 1) ≡ 2 * i + 2 = omega arith in
     rw (z, a, half-more hs i h) (next g 2 e refl m)
 
 abbrev Inv-loop : tie.InvT-loop
-Inv-loop out₀ halves i₀ out i = (i ≤ 8) × (length halves ≡ 8) × Begun 16 out (2 * i) (halfBytes (take i halves))
+Inv-loop out₀ halves i₀ out i = (i ≤ 8) × (length halves ≡ 8) × Begun 16 out (2 * i) (numbersBytes 2 (take i halves))
 
 abbrev μ-loop : tie.MeasureT-loop
 μ-loop out₀ halves i₀ out i = 8 - i
@@ -57,7 +54,7 @@ returns : tie.Need-returns Inv-loop μ-loop
 returns c =
     let l = c .before in
     let e : l .loop .i ≡ 8 = omega arith in
-    written (rw e at (l .loop .inv .2)) ∙ ap halfBytes (take-all 8 (halves l) (omega arith))
+    written (rw e at (l .loop .inv .2)) ∙ ap (numbersBytes 2) (take-all 8 (halves l) (omega arith))
 
 pub put-halves-spec : {M : Type 1} → statement M
 put-halves-spec =

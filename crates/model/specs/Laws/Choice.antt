@@ -85,7 +85,11 @@ pub or-false-right : (a b : Bool) → a || b ≡ false → b ≡ false
 or-false-right true b e = absurd (true≢false e)
 or-false-right false b e = e
 
--- what is left of a disjunction whose first part fails
+-- what is left of a disjunction whose second part fails, and of one whose first does
+pub or-false : (a b : Bool) → b ≡ false → a || b ≡ a
+or-false true b e = refl
+or-false false b e = e
+
 pub or-right : (a b : Bool) → a || b ≡ true → a ≡ false → b ≡ true
 or-right true b e h = absurd (true≢false h)
 or-right false b e h = e

@@ -3,18 +3,19 @@
 -- flags) is here too.
 use mathlib.Core.Path.{_≡_, refl, sym, ap, ap₂, _∙_}
 use mathlib.Core.Bool.{Bool, true, false}
-use mathlib.Core.List.{List, [], _∷_, _++_, map}
+use mathlib.Core.List.{List, [], _∷_, _++_, map, append-assoc, append-nil}
 use Prim.Native.Nat.{ℕ, zero, suc, _+_, _*_, _/_, _%_, _^_, _≤_, _<_}
 use native.Mathlib.Omega.{arith}
 use native.Mathlib.Numerals.{add-one}
-use native.Mathlib.Nat.{zero-add, add-zero, suc-add, add-assoc, one-mul, mul-assoc, mul-comm, pow-suc}
+use native.Mathlib.Nat.{zero-add, add-zero, suc-add, add-assoc, one-mul, mul-zero, mul-suc, mul-assoc, mul-comm, pow-suc}
 use native.Mathlib.Nat.{pow-succ', one-le-pow, div-one, div-div-eq-div-mul, mod-eq-of-lt}
 use lib.Arith.{mod-mul}
 use lib.ListN.{length, getD, take, drop, replicate, length-append}
-use lib.Seq.{getD-append-add, drop-cons, take-add, take-all, drop-drop}
+use lib.Seq.{getD-append-add, drop-cons, take-add, take-all, take-at, drop-at, drop-drop}
 use lib.Dec.{eqb}
 use borrow.Author.Tests.{eqb-true, leb-true}
-use Rattle.model.specs.Base.{bit, sum, bytes, byteAt, number, AllBytes, Field, field, encoded}
+use borrow.Rule.Slice.PartMut.{putMid}
+use Rattle.model.specs.Base.{bit, sum, bytes, byteAt, number, numbersFrom, AllBytes, Field, field, encoded, numbersBytes}
 use Rattle.model.specs.Waitcnt.{prefetchEnable}
 use Rattle.model.specs.BoardBytes.{boardLength, clockOf, halvesFrom, contentsOf, boardOf, clockFields}
 use Rattle.model.specs.BoardBytes.{contentsFields, boardBytes, soundBytes, sound}
@@ -86,29 +87,62 @@ fields-back [] b i h l = refl
 fields-back (w ∷ ws) b i h l =
     rw (bytes-number w i b h (omega arith), fields-back ws b (i + w) h (omega arith), take-add, drop-drop)
 
--- ---- halfwords
+-- ---- numbers of one width, one behind the other
 
-abbrev pub halfBytes : List ℕ → List ℕ
-halfBytes hs = encoded (map (field 2) hs)
+pub numbers-length : (w : ℕ) (xs : List ℕ) → length (numbersBytes w xs) ≡ w * length xs
+numbers-length w [] = sym (mul-zero w)
+numbers-length w (x ∷ xs) =
+    length-append (bytes w x) (numbersBytes w xs) ∙ ap₂ (λ (a b : ℕ). a + b) (bytes-length w x) (numbers-length w xs)
+    ∙ omega (arith, mul-suc w (length xs))
 
-pub halfBytes-length : (hs : List ℕ) → length (halfBytes hs) ≡ 2 * length hs
-halfBytes-length [] = refl
-halfBytes-length (h ∷ hs) = omega (arith, halfBytes-length hs)
+-- one more
+pub numbers-snoc : (w : ℕ) (xs : List ℕ) (x : ℕ) → numbersBytes w (xs ++ x ∷ []) ≡ numbersBytes w xs ++ bytes w x
+numbers-snoc w [] x = append-nil (bytes w x)
+numbers-snoc w (y ∷ xs) x =
+    ap (λ (t : List ℕ). bytes w y ++ t) (numbers-snoc w xs x)
+    ∙ sym (append-assoc (bytes w y) (numbersBytes w xs) (bytes w x))
 
-halves-past : (xs ys : List ℕ) (i n : ℕ) → halvesFrom (xs ++ ys) (length xs + i) n ≡ halvesFrom ys i n
-halves-past xs ys i zero = refl
-halves-past xs ys i (suc n) = rw (number-past, add-assoc, halves-past xs ys (i + 2) n)
+numbers-past : (w : ℕ) (xs ys : List ℕ) (i n : ℕ) → numbersFrom w (xs ++ ys) (length xs + i) n ≡ numbersFrom w ys i n
+numbers-past w xs ys i zero = refl
+numbers-past w xs ys i (suc n) = rw (number-past, add-assoc, numbers-past w xs ys (i + w) n)
 
-halves-back : (hs rest : List ℕ) → ((i : ℕ) → getD hs i 0 < 0x1_0000) → halvesFrom (halfBytes hs ++ rest) 0 (length hs) ≡ hs
-halves-back [] rest h = refl
-halves-back (x ∷ hs) rest h =
-    ap₂ (λ (y : ℕ) (ys : List ℕ). y ∷ ys) (number-fits 2 x (halfBytes hs ++ rest) (h 0))
-    (halves-past (bytes 2 x) (halfBytes hs ++ rest) 0 (length hs) ∙ halves-back hs rest (λ i. h (suc i)))
+-- they are read back
+pub numbers-back : (w : ℕ) (xs rest : List ℕ) → ((i : ℕ) → getD xs i 0 < 256 ^ w)
+    → numbersFrom w (numbersBytes w xs ++ rest) 0 (length xs) ≡ xs
+numbers-back w [] rest h = refl
+numbers-back w (x ∷ xs) rest h =
+    ap₂ (λ (y : ℕ) (ys : List ℕ). y ∷ ys)
+    (ap (λ (b : List ℕ). number w b 0) (append-assoc (bytes w x) (numbersBytes w xs) rest)
+    ∙ number-fits w x (numbersBytes w xs ++ rest) (h 0))
+    (ap₂ (λ (b : List ℕ) (i : ℕ). numbersFrom w b i (length xs)) (append-assoc (bytes w x) (numbersBytes w xs) rest) behind
+    ∙ numbers-past w (bytes w x) (numbersBytes w xs ++ rest) 0 (length xs) ∙ numbers-back w xs rest (λ i. h (suc i)))
+  where
+    behind : 0 + w ≡ length (bytes w x) + 0
+    behind = omega (arith, bytes-length w x)
 
-halves-below : (b : List ℕ) → AllBytes b → (i n j : ℕ) → getD (halvesFrom b i n) j 0 < 0x1_0000
-halves-below b h i zero j = omega arith
-halves-below b h i (suc n) zero = number-below 2 i b h
-halves-below b h i (suc n) (suc j) = halves-below b h (i + 2) n j
+-- number k of them
+pub numbers-at : (w : ℕ) (b : List ℕ) (i n k : ℕ) → k < n → getD (numbersFrom w b i n) k 0 ≡ number w b (i + w * k)
+numbers-at w b i zero k h = absurd (omega arith)
+numbers-at w b i (suc n) zero h = ap (number w b) (omega (arith, mul-zero w))
+numbers-at w b i (suc n) (suc k) h =
+    numbers-at w b (i + w) n k (omega arith) ∙ ap (number w b) (omega (arith, mul-suc w k))
+
+-- each fits its bytes
+numbers-below : (w : ℕ) (b : List ℕ) → AllBytes b → (i n j : ℕ) → getD (numbersFrom w b i n) j 0 < 256 ^ w
+numbers-below w b h i zero j = one-le-pow w 256 (omega arith)
+numbers-below w b h i (suc n) zero = number-below w i b h
+numbers-below w b h i (suc n) (suc j) = numbers-below w b h (i + w) n j
+
+-- ---- parts of one width, written one behind the other
+
+-- behind k of them, which are done, the next one comes
+pub put-next : (w k : ℕ) (done lent new : List ℕ) → length done ≡ w * k
+    → putMid (w * k) w (done ++ drop (w * k) lent) new ≡ (done ++ new) ++ drop (w * (k + 1)) lent
+put-next w k done lent new e =
+    let next : w * k + w ≡ w * (k + 1) = rw (add-one, mul-suc) in
+    ap₂ (λ (x y : List ℕ). x ++ (new ++ drop w y)) (take-at done _ (w * k) e) (drop-at done _ (w * k) e)
+    ∙ sym (append-assoc done new _)
+    ∙ ap (λ (l : List ℕ). (done ++ new) ++ l) (drop-drop w (w * k) lent ∙ ap (λ (j : ℕ). drop j lent) next)
 
 -- ---- a board whose fields fit their bytes
 
@@ -152,7 +186,7 @@ decoded-fits b h =
             head-addr-fits = number-below 4 16 b h;
             switch = refl;
           };
-      halves-fit = record { eight = refl; halves-fit = halves-below b h 20 8 };
+      halves-fit = record { eight = refl; halves-fit = numbers-below 2 b h 20 8 };
       contents-fits =
           record {
             pc-fits = number-below 4 36 b h;
@@ -190,13 +224,13 @@ first-byte b = flag-byte (b .clock .prefetch .«first_beat»)
 module _ (b : Board) (eight : length (b .halves) ≡ 8) where
   pub board-length : length (boardBytes b) ≡ boardLength
   unfolding boardBytes
-  board-length = simp (length-append, halfBytes-length, eight)
+  board-length = simp (length-append, numbers-length, eight)
 
   past-halves : (n i : ℕ) → number n (boardBytes b) (36 + i) ≡ number n (encoded (contentsFields (b .contents))) i
   unfolding boardBytes
   past-halves n i =
-      let front : List ℕ = encoded (clockFields (b .clock)) ++ halfBytes (b .halves) in
-      let e : 36 ≡ length front = simp (halfBytes-length, eight) in
+      let front : List ℕ = encoded (clockFields (b .clock)) ++ numbersBytes 2 (b .halves) in
+      let e : 36 ≡ length front = simp (numbers-length, eight) in
       rw e (number-past n front (encoded (contentsFields (b .contents))) i)
 
   pub zero-word : number 4 (boardBytes b) 68 ≡ 0
@@ -232,7 +266,7 @@ clock-back b k x =
 
 pub halves-back-in : (b : Board) → HalvesFit (b .halves) → halvesFrom (boardBytes b) 20 8 ≡ b .halves
 unfolding boardBytes
-halves-back-in b k = rw (k .eight) at (halves-back (b .halves) (encoded (contentsFields (b .contents))) (k .halves-fit))
+halves-back-in b k = rw (k .eight) at (numbers-back 2 (b .halves) (encoded (contentsFields (b .contents))) (k .halves-fit))
 
 pub contents-back : (b : Board) → length (b .halves) ≡ 8 → ContentsFits (b .contents) → contentsOf (boardBytes b) ≡ b .contents
 unfolding contentsOf

@@ -14,7 +14,7 @@ use lib.Dec.{eqb}
 use borrow.Author.Tests.{eqb-true}
 use Rattle.model.specs.Base.{bit, sum, byteAt, bytes, number, field, encoded}
 use Rattle.model.specs.Waitcnt.{prefetchEnable}
-use Rattle.model.specs.Step.{Media, State, Timed, timed, changed, answer}
+use Rattle.model.specs.Step.{Media, State, Timed, timed, changed, answer, cyclesOf}
 use Rattle.model.specs.Sheet.{recordAt, recordsFrom, recordCount, recordsOf, isaState, stepOf, stepsOf}
 use Rattle.model.specs.BoardBytes.{answerLength, clockOf, answerBytes, answersBytes}
 use Rattle.model.specs.Outcome.{Lent, LentBytes, Outcome, mediaOf, firstState, ran, outcomeBy, outcome}
@@ -22,7 +22,7 @@ use Rattle.model.specs.Alike.{AlikeRecords, AlikeSheets, AlikeBoards, st
 use Rattle.model.specs.Alike.{ReadBack, cyclesFrom, Accounts, Compared, Demand3}
 use Rattle.model.specs.Laws.Choice.{All, choose, choose₂, by-test, tests, eqb-ne}
 use Rattle.model.specs.Laws.Times.{Times, times, withLanded, SameTime, SameTimes, timings, run-times}
-use Rattle.model.specs.Laws.Times.{run-total, timings-alike, totalOf}
+use Rattle.model.specs.Laws.Times.{run-cycles, run-total, timings-alike, cyclesIn, totalOf}
 use Rattle.model.specs.Laws.Run.{run-at}
 use Rattle.model.specs.Laws.Limits.{timings-limits, records-length}
 use Rattle.model.specs.Laws.Fits.{AnswerFits, answers-fit, answers-count}
@@ -99,7 +99,7 @@ same-number-at (suc n) i k b c h =
 same-number : (n i : ℕ) (b c : List ℕ) → ((j : ℕ) → i ≤ j → j < i + n → byteAt b j ≡ byteAt c j) → number n b i ≡ number n c i
 same-number n i b c h = same-number-at n i i b c (λ j l. h (i + j) (omega arith) (omega arith))
 
-alike-count : (s t : List ℕ) → AlikeSheets s t → recordCount s ≡ recordCount t
+pub alike-count : (s t : List ℕ) → AlikeSheets s t → recordCount s ≡ recordCount t
 alike-count s t h = same-number 2 6 s t (λ j l u. h .header j (omega arith))
 
 module _ (b c : List ℕ) (h : AlikeBoards b c) where
@@ -276,13 +276,16 @@ module _ (i : Lent) (o : Outcome) (ok : o ≡ outcome i) (zero-number : o .numbe
   unfolding ran
   time-total = ap (λ (x : Outcome). x .total) whole ∙ run-total (mediaOf i) (firstState i) (stepsOf (i .sheet))
 
-  sum-stands : LentBytes i → o .total ≡ sum (cyclesFrom (o .answers) 0 (recordCount (i .sheet)))
-  sum-stands lent =
+  -- the cycles that stand in the answers are those of the run
+  pub cycles-there : LentBytes i → cyclesFrom (o .answers) 0 (recordCount (i .sheet)) ≡ cyclesOf (ran i)
+  cycles-there lent =
       rw whole
-      (ap sum
-      (sym (cycles-stand ((ran i) .answers) _ (answers-fit i lent accepted))
-      ∙ ap (cyclesFrom (answersBytes ((ran i) .answers) ++ drop (answerLength * recordCount (i .sheet)) (i .answers)) 0)
-      (answers-count i)))
+      (sym (ap (cyclesFrom (answersBytes ((ran i) .answers) ++ drop (answerLength * recordCount (i .sheet)) (i .answers)) 0)
+      (answers-count i))
+      ∙ cycles-stand ((ran i) .answers) _ (answers-fit i lent accepted))
+
+  sum-stands : LentBytes i → o .total ≡ sum (cyclesFrom (o .answers) 0 (recordCount (i .sheet)))
+  sum-stands lent = ap (λ (x : Outcome). x .total) whole ∙ sym (ap sum (cycles-there lent))
 
   pub accounts : Accounts i o
   accounts =
@@ -328,29 +331,38 @@ module _ (i : Lent) (o : Outcome) (ok : o ≡ outcome i) (zero-number : o .numbe
 
 -- ---- the theorem
 
+module _ (i j : Lent) (s : AlikeSheets (i .sheet) (j .sheet)) (b : AlikeBoards (i .board) (j .board)) where
+  steps-alike : SameTimes (stepsOf (i .sheet)) (stepsOf (j .sheet))
+  steps-alike =
+      rw (← alike-count (i .sheet) (j .sheet) s)
+      (alike-steps (i .sheet) (j .sheet) 0 (recordCount (i .sheet)) (λ k h. s .records k (omega arith)))
+
+  same-timings : timings (clockOf (i .board)) (stepsOf (i .sheet)) ≡ timings (clockOf (j .board)) (stepsOf (j .sheet))
+  same-timings =
+      timings-alike (clockOf (i .board)) (stepsOf (i .sheet)) (stepsOf (j .sheet)) steps-alike
+      ∙ ap (λ (c : Clock). timings c (stepsOf (j .sheet))) (alike-clock (i .board) (j .board) b)
+
+  -- step by step the same cycles
+  pub same-cycles : cyclesOf (ran i) ≡ cyclesOf (ran j)
+  unfolding ran
+  same-cycles =
+      run-cycles (mediaOf i) (firstState i) (stepsOf (i .sheet))
+      ∙ ap cyclesIn same-timings
+      ∙ sym (run-cycles (mediaOf j) (firstState j) (stepsOf (j .sheet)))
+
 pub demand3 : (i j : Lent) (o p : Outcome) → o ≡ outcome i → p ≡ outcome j → o .number ≡ 0 → p .number ≡ 0
     → AlikeSheets (i .sheet) (j .sheet) → AlikeBoards (i .board) (j .board) → Demand3 i j o p
 demand3 i j o p e f m n s b =
     record {
       columns = λ k at h c.
           column i o e m k at h c
-          ∙ ap (λ (ts : List Times). byteAt (timesBytes (getD ts k noTimes)) (at - 4)) same
+          ∙ ap (λ (ts : List Times). byteAt (timesBytes (getD ts k noTimes)) (at - 4)) (same-timings i j s b)
           ∙ sym (column j p f n k at (omega (arith, alike-count (i .sheet) (j .sheet) s)) (other-compared k at h c));
-      totals = time-total i o e m ∙ ap totalOf same ∙ sym (time-total j p f n);
+      totals = time-total i o e m ∙ ap totalOf (same-timings i j s b) ∙ sym (time-total j p f n);
       one = accounts i o e m;
       other = accounts j p f n;
     }
   where
-    steps : SameTimes (stepsOf (i .sheet)) (stepsOf (j .sheet))
-    steps =
-        rw (← alike-count (i .sheet) (j .sheet) s)
-        (alike-steps (i .sheet) (j .sheet) 0 (recordCount (i .sheet)) (λ k h. s .records k (omega arith)))
-
-    same : timings (clockOf (i .board)) (stepsOf (i .sheet)) ≡ timings (clockOf (j .board)) (stepsOf (j .sheet))
-    same =
-        timings-alike (clockOf (i .board)) (stepsOf (i .sheet)) (stepsOf (j .sheet)) steps
-        ∙ ap (λ (c : Clock). timings c (stepsOf (j .sheet))) (alike-clock (i .board) (j .board) b)
-
     -- the records agree in kind, so the same bytes are compared
     other-compared : (k at : ℕ) → k < recordCount (i .sheet) → Compared (recordAt (i .sheet) k) at
         → Compared (recordAt (j .sheet) k) at

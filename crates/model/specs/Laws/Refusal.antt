@@ -20,7 +20,7 @@ use Rattle.model.specs.Laws.Rows.{Exactly, Decides, NoneHolds, Rising, d
 use Rattle.model.specs.Laws.Rows.{decides-refusal, none-accepts, zero-accepted}
 use Rattle.model.specs.declared.Refusal.{Refusal}
 use Rattle.model.specs.declared.Refusal.the-variants.{BadMark, BadVersion, BadShape, BadLengths}
-use Rattle.model.specs.declared.Refusal.the-variants.{UnsoundBoard, ShortAnswers, FaultyRecord}
+use Rattle.model.specs.declared.Refusal.the-variants.{UnsoundBoard, ShortAnswers, FaultyRecord, BadRate}
 use Rattle.model.specs.declared.SheetRecord.{SheetRecord}
 use Rattle.model.specs.declared.Verdict.{Verdict}
 use Rattle.model.specs.declared.Verdict.the-variants.{Accepted, Refused}
@@ -111,7 +111,7 @@ module _ (s : List ℕ) where
 rising : (i : Lent) → Rising 0 (rows i)
 rising i = (lit< tt, (lit< tt, (lit< tt, (lit< tt, (lit< tt, (lit< tt, (lit< tt, tt)))))))
 
-by-number : (i : Lent) (v : Verdict) → (outcomeBy i v) .number ≡ verdictNumber v
+pub by-number : (i : Lent) (v : Verdict) → (outcomeBy i v) .number ≡ verdictNumber v
 by-number i Accepted = refl
 by-number i (Refused r) = refl
 
@@ -156,7 +156,7 @@ pub record Index (i : Lent) (o : Outcome) : Type 0 where
   pub faulty-record : o .number ≡ 7 → FirstFault (i .sheet) (o .index)
   pub accepted : o .number ≡ 0 → o .index ≡ recordCount (i .sheet)
 
-zero-index : (i : Lent) (v : Verdict) → (outcomeBy i v) .number ≢ 0 → (outcomeBy i v) .number ≢ 7 → (outcomeBy i v) .index ≡ 0
+pub zero-index : (i : Lent) (v : Verdict) → (outcomeBy i v) .number ≢ 0 → (outcomeBy i v) .number ≢ 7 → (outcomeBy i v) .index ≡ 0
 zero-index i Accepted h k = absurd (h refl)
 zero-index i (Refused BadMark) h k = refl
 zero-index i (Refused BadVersion) h k = refl
@@ -165,6 +165,7 @@ zero-index i (Refused BadLengths) h k = refl
 zero-index i (Refused UnsoundBoard) h k = refl
 zero-index i (Refused ShortAnswers) h k = refl
 zero-index i (Refused (FaultyRecord n)) h k = absurd (k refl)
+zero-index i (Refused BadRate) h k = refl
 
 pub number-zero : (i : Lent) → (outcome i) .number ≡ 0 → verdict i ≡ Accepted
 number-zero i h = zero-accepted (verdict i) (sym (number-is i) ∙ h)
@@ -199,7 +200,7 @@ pub record Acceptable (i : Lent) : Type 0 where
   pub answers : answerLength * recordCount (i .sheet) ≤ length (i .answers)
   pub records : NoFault (i .sheet)
 
-none-acceptable : (i : Lent) → NoneHolds (rows i) → Acceptable i
+pub none-acceptable : (i : Lent) → NoneHolds (rows i) → Acceptable i
 none-acceptable i h =
     record {
       marked = not-false _ (h .0);
@@ -211,7 +212,7 @@ none-acceptable i h =
       records = no-fault (i .sheet) (ltb-false _ _ (h .1 .1 .1 .1 .1 .1 .0));
     }
 
-acceptable-none : (i : Lent) → Acceptable i → NoneHolds (rows i)
+pub acceptable-none : (i : Lent) → Acceptable i → NoneHolds (rows i)
 acceptable-none i a = (
   ap not (a .marked),
   (
@@ -242,7 +243,7 @@ pub record Untouched (i : Lent) (o : Outcome) : Type 0 where
   pub store : o .store ≡ i .store
   pub answers : o .answers ≡ i .answers
 
-by-refusal : (i : Lent) (v : Verdict) → (outcomeBy i v) .number ≢ 0 → Untouched i (outcomeBy i v)
+pub by-refusal : (i : Lent) (v : Verdict) → (outcomeBy i v) .number ≢ 0 → Untouched i (outcomeBy i v)
 by-refusal i Accepted h = absurd (h refl)
 by-refusal i (Refused r) h = record { total = refl; board = refl; store = refl; answers = refl }
 

@@ -12,7 +12,7 @@ use Rattle.model.specs.Outcome.{Row, byRow, firstRow, refusalNumber, ver
 use Rattle.model.specs.Laws.Choice.{choose, by-test, either, if-true, if-false}
 use Rattle.model.specs.declared.Refusal.{Refusal}
 use Rattle.model.specs.declared.Refusal.the-variants.{BadMark, BadVersion, BadShape, BadLengths}
-use Rattle.model.specs.declared.Refusal.the-variants.{UnsoundBoard, ShortAnswers, FaultyRecord}
+use Rattle.model.specs.declared.Refusal.the-variants.{UnsoundBoard, ShortAnswers, FaultyRecord, BadRate}
 use Rattle.model.specs.declared.Verdict.{Verdict}
 use Rattle.model.specs.declared.Verdict.the-variants.{Accepted, Refused}
 
@@ -81,6 +81,21 @@ accepts-none (r ∷ rs) h =
     absurd (omega arith))
     (λ e. (e, accepts-none rs (sym (row-passes r (firstRow rs) e) ∙ h)))
 
+-- no row of a table in two parts holds exactly when none of either does
+pub none-of-both : (xs ys : List Row) → Exactly (NoneHolds (xs ++ ys)) (NoneHolds xs × NoneHolds ys)
+none-of-both [] ys = (λ h. (tt, h), λ h. h .1)
+none-of-both (r ∷ xs) ys =
+    let e = none-of-both xs ys in
+    (λ h. let k = e .0 (h .1) in ((h .0, k .0), k .1), λ h. (h .0 .0, e .1 (h .0 .1, h .1)))
+
+-- the first row behind a part decides exactly when none of that part holds, and it does
+pub next-decides : (xs : List Row) (r : Row) (ys : List Row)
+    → Exactly (Decides (xs ++ r ∷ ys) (length xs)) (NoneHolds xs × (r .holds ≡ true))
+next-decides [] r ys = (λ h. (tt, h), λ h. h .1)
+next-decides (x ∷ xs) r ys =
+    let e = next-decides xs r ys in
+    (λ h. let k = e .0 (h .1) in ((h .0, k .0), k .1), λ h. (h .0 .0, e .1 (h .0 .1, h .1)))
+
 -- ---- numbers
 
 -- a verdict of a table whose numbers rise from above n is none, or has one above n
@@ -137,6 +152,7 @@ refused-number BadLengths h = omega arith
 refused-number UnsoundBoard h = omega arith
 refused-number ShortAnswers h = omega arith
 refused-number (FaultyRecord k) h = omega arith
+refused-number BadRate h = omega arith
 
 pub zero-accepted : (v : Verdict) → verdictNumber v ≡ 0 → v ≡ Accepted
 zero-accepted Accepted h = refl

@@ -7,7 +7,7 @@ use Prim.Native.Nat.{ℕ, zero, suc, _+_, _<_}
 use native.Mathlib.Omega.{arith}
 use lib.ListN.{length, getD, take}
 use Rattle.model.specs.Base.{sum}
-use Rattle.model.specs.Step.{Media, State, run, total, Timed, timed, idled, clockAfter, changed, stepped}
+use Rattle.model.specs.Step.{Media, State, run, cyclesOf, total, Timed, timed, idled, clockAfter, changed, stepped}
 use Rattle.model.specs.declared.Clock.{Clock}
 use Rattle.model.specs.declared.Answer.{Answer}
 use Rattle.model.specs.declared.Step.{Step}
@@ -32,8 +32,11 @@ unfoldable pub timings : Clock → List Step → List Times
 timings c [] = []
 timings c (x ∷ xs) = timesOf (timed c x) ∷ timings (clockAfter c x) xs
 
+abbrev pub cyclesIn : List Times → List ℕ
+cyclesIn ts = map (λ (t : Times). t .cycles) ts
+
 abbrev pub totalOf : List Times → ℕ
-totalOf ts = sum (map (λ (t : Times). t .cycles) ts)
+totalOf ts = sum (cyclesIn ts)
 
 -- the bytes that a store landed stand among the hits; they are the one thing in these columns that a memory enters
 abbrev pub withLanded : ℕ → Times → Times
@@ -49,10 +52,13 @@ run-times m s [] k d t e h = absurd (omega arith)
 run-times m s (x ∷ xs) zero d t e h = refl
 run-times m s (x ∷ xs) (suc k) d t e h = run-times m (stepped m s x) xs k d t e (omega arith)
 
-pub run-total : (m : Media) (s : State) (xs : List Step) → total (run m s xs) ≡ totalOf (timings (s .board .clock) xs)
+pub run-cycles : (m : Media) (s : State) (xs : List Step) → cyclesOf (run m s xs) ≡ cyclesIn (timings (s .board .clock) xs)
 unfolding run timings
-run-total m s [] = refl
-run-total m s (x ∷ xs) = ap (λ (n : ℕ). (timed (s .board .clock) x) .cycles + n) (run-total m (stepped m s x) xs)
+run-cycles m s [] = refl
+run-cycles m s (x ∷ xs) = ap (λ (cs : List ℕ). (timed (s .board .clock) x) .cycles ∷ cs) (run-cycles m (stepped m s x) xs)
+
+pub run-total : (m : Media) (s : State) (xs : List Step) → total (run m s xs) ≡ totalOf (timings (s .board .clock) xs)
+run-total m s xs = ap sum (run-cycles m s xs)
 
 -- ---- one clock, and steps that take the same time from every clock
 

@@ -4,11 +4,14 @@ use borrow.Author.Needs.{needs}
 use Rattle.replay.proofs.replay_headed.Statement.{statement}
 use Rattle.replay.proofs.replay_headed.Tie as tie
 
--- where everything is read: the fifth length, and the third
-abbrev fifth : tie.After-lengths-of → tie.After-at-most5
-fifth c = c .before .before .before
+-- where everything is read: the last length, the fifth, and the third
+abbrev last : tie.After-asked-of → tie.After-at-most7
+last c = c .before .before
 
-abbrev third : tie.After-lengths-of → tie.After-at-most3
+abbrev fifth : tie.After-asked-of → tie.After-at-most5
+fifth c = last c .before .before .before .before
+
+abbrev third : tie.After-asked-of → tie.After-at-most3
 third c = fifth c .before .before .before .before
 
 part-sheet-end : tie.Need-part-sheet-end
@@ -27,7 +30,10 @@ part-rom-end : tie.Need-part-rom-end
 part-rom-end c = fifth (c .before .before .before .before) .at-most5 .ensures
 
 part-answers-end : tie.Need-part-answers-end
-part-answers-end c = c .before .before .before .before .before .before .at-most6 .ensures
+part-answers-end c = last (c .before .before .before .before .before) .before .before .at-most6 .ensures
+
+part-shares-end : tie.Need-part-shares-end
+part-shares-end c = last (c .before .before .before .before .before .before) .at-most7 .ensures
 
 pub replay-headed-spec : {M : Type 1} → statement M
 replay-headed-spec =
@@ -36,6 +42,9 @@ replay-headed-spec =
     (λ c κs. search needs)
     (λ c κs. search needs)
     (λ c. search needs)
+    (λ c κs. search needs)
+    (λ c κs. search needs)
+    (λ c κs. search needs)
     (λ c κs. search needs)
     (λ c κs. search needs)
     (λ c κs. search needs)
@@ -67,6 +76,8 @@ replay-headed-spec =
     (λ c. search needs)
     (λ c. zero-le)
     part-answers-end
-    (λ c κs. search needs)
+    (λ c. search needs)
+    (λ c. zero-le)
+    part-shares-end
     (λ c κs. search needs)
     (λ c. search needs))
