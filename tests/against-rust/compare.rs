@@ -206,13 +206,15 @@ pub fn tell(case: &Case, tariff: Option<&Tariff>, rust: &Outcome, library: &Outc
     let header = &case.sheet[..case.sheet.len().min(HEADER)];
     println!("sheet of {} bytes, header {header:02X?}", case.sheet.len());
     tell_board("before ", &case.board);
-    for (k, r) in records_of(&case.sheet).iter().enumerate() {
+    let records = records_of(&case.sheet);
+    for (k, r) in records.iter().enumerate() {
         let answer = |o: &Outcome| o.answers.get(ANSWER * k..ANSWER * (k + 1)).map(Answer::of);
         let (a, b) = (answer(rust), answer(library));
         let mark = if a == b { "" } else { "   <<<" };
         println!("{k} {r:X?}\n    Rust    {a:X?}\n    library {b:X?}{mark}");
     }
-    for (k, (a, b)) in shares_of(&rust.shares).zip(shares_of(&library.shares)).enumerate() {
+    let shares = shares_of(&rust.shares).zip(shares_of(&library.shares)).take(records.len());
+    for (k, (a, b)) in shares.enumerate() {
         let mark = if a == b { "" } else { "   <<<" };
         println!("share {k}: Rust {a}, library {b}{mark}");
     }

@@ -1,5 +1,6 @@
 //! Seeded cases: all of a case follows from its seed, so that any case can be run again.
 
+use crate::bills;
 use crate::boards;
 use crate::bytes::*;
 use crate::demand3::stores_mode;
@@ -203,8 +204,8 @@ pub fn accepted(rng: &mut Rng, large: usize) -> Plan {
     plan
 }
 
-/// Two accepted runs with alike sheets and alike boards, all else different (demand 3), but in half of the pairs the lengths and
-/// the display modes, so that what lands must agree too (W-201).
+/// Two accepted runs under one rate with alike sheets and alike boards, all else different (demand 3), but in half of the pairs
+/// the lengths and the display modes, so that what lands must agree too (W-201).
 pub fn pair(seed: u64) -> (Case, Case) {
     let mut rng = Rng::new(seed);
     let first = accepted(&mut rng, 2);
@@ -217,6 +218,8 @@ pub fn pair(seed: u64) -> (Case, Case) {
         records_of(&first.sheet).into_iter().map(|r| alike_record(&mut rng, r, same)).collect();
     let board = alike_board(&mut rng, Board::of(&first.board));
     let second = Plan::accepted(board, &memories, &records);
+    let rate = bills::good_rate(&mut rng);
+    let [first, second] = [first, second].map(|plan| plan.billed(bills::enough(&mut rng, records.len()), rate, 0));
     let (first, mut second) = (first.random_case(&mut rng), second.random_case(&mut rng));
     if same && first.lengths[IO] > 0 {
         let mode: usize = first.lengths[..IO].iter().sum();

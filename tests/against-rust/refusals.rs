@@ -1,5 +1,5 @@
-//! Cases that a run must refuse: each of the seven conditions alone, several at once, random damage; the same under a tariff,
-//! which adds an eighth.
+//! Cases that a run must refuse: each of the seven conditions alone, several at once, random damage; and under a tariff, which
+//! adds an eighth.
 
 use crate::bills;
 use crate::boards;
@@ -8,15 +8,21 @@ use crate::gen::{self, Plan, Rng};
 use crate::machine::{BIOS_SIZE, ROM_WINDOW_SIZE, SIZES};
 
 pub fn one(rng: &mut Rng) -> Plan {
-    let number = 1 + rng.below(7) as u32;
-    with(rng, &[number])
+    let number = 1 + rng.below(8) as u32;
+    let short = rng.pick(&SHORT);
+    under_tariff(rng, &[number], short)
 }
 
 /// Two conditions or more: the first in the table's order decides.
 pub fn several(rng: &mut Rng) -> Plan {
-    let set = 1 + rng.below(127);
-    let numbers: Vec<u32> = (1..=7).filter(|k| set >> (k - 1) & 1 == 1).collect();
-    with(rng, &numbers)
+    let numbers = set_of_eight(1 + rng.below(255));
+    let short = rng.pick(&SHORT);
+    under_tariff(rng, &numbers, short)
+}
+
+/// The conditions of a set, whose lowest bit is that of 1.
+pub fn set_of_eight(set: usize) -> Vec<u32> {
+    (1..=8).filter(|k| set >> (k - 1) & 1 == 1).collect()
 }
 
 /// An accepted plan with these conditions made true (given in rising order).
@@ -34,7 +40,9 @@ pub enum Short {
     Both,
 }
 
-/// The same under a tariff: 8 is a bad rate. Without a tariff 8 isn't met, nor is 6 where only the shares are short.
+pub const SHORT: [Short; 3] = [Short::Answers, Short::Shares, Short::Both];
+
+/// The same under a tariff, for which 8 is a bad rate. Without a tariff 8 isn't met, nor is 6 where only the shares are short.
 pub fn under_tariff(rng: &mut Rng, numbers: &[u32], short: Short) -> Plan {
     let mut plan = some_steps(rng);
     let n = record_count(&plan.sheet);
