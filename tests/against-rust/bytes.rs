@@ -1,4 +1,4 @@
-//! Document 01's byte layouts: sheet, record, answer, board; when a board is sound; and the library's C function.
+//! Document 01's byte layouts: sheet, record, answer, board; when a board is sound; and the library's C functions.
 
 /// What is lent to one run. `lengths` are the seven lengths as given, in the store's order:
 /// EWRAM, IWRAM, I/O, palette, VRAM, OAM, SRAM. Nothing here need be well formed.
@@ -11,6 +11,15 @@ pub struct Case {
     pub rom: Vec<u8>,
     pub answers: Vec<u8>,
     pub lengths: [usize; 7],
+    /// What a run under a tariff has besides, where the case is made for one.
+    pub tariff: Option<Tariff>,
+}
+
+/// A tariff (document 02, W-202): the lent shares, and the rate in cents per million cycles. Neither need be good.
+#[derive(Clone)]
+pub struct Tariff {
+    pub shares: Vec<u8>,
+    pub rate: u32,
 }
 
 /// The run's result as it crosses the C boundary.
@@ -22,6 +31,24 @@ pub struct Report {
     pub total: u64,
 }
 
+/// The result of a run under a tariff as it crosses the C boundary.
+#[repr(C)]
+#[derive(Clone, Copy, Debug, PartialEq, Eq)]
+pub struct Bill {
+    pub number: u32,
+    pub index: u32,
+    pub total: u64,
+    /// In cents.
+    pub charge: u64,
+}
+
+impl From<Report> for Bill {
+    /// A run without a tariff charges nothing.
+    fn from(r: Report) -> Bill {
+        Bill { number: r.number, index: r.index, total: r.total, charge: 0 }
+    }
+}
+
 // The library: include/bts.h.
 extern "C" {
     pub fn bts_run(
@@ -30,20 +57,31 @@ extern "C" {
         rom: *const u8, rom_len: usize, answers: *mut u8, answers_len: usize,
         ewram: usize, iwram: usize, io: usize, palette: usize, vram: usize, oam: usize, sram: usize,
     ) -> Report;
+
+    pub fn bts_run_tariff(
+        sheet: *const u8, sheet_len: usize, board: *mut u8, board_len: usize,
+        store: *mut u8, store_len: usize, bios: *const u8, bios_len: usize,
+        rom: *const u8, rom_len: usize, answers: *mut u8, answers_len: usize,
+        shares: *mut u8, shares_len: usize,
+        ewram: usize, iwram: usize, io: usize, palette: usize, vram: usize, oam: usize, sram: usize,
+        rate: u32,
+    ) -> Bill;
 }
 
-/// Everything that a run gives back or may have changed.
+/// Everything that a run gives back or may have changed. Without a tariff there are no shares, and the charge is 0.
 #[derive(Clone)]
 pub struct Outcome {
-    pub report: Report,
+    pub report: Bill,
     pub board: Vec<u8>,
     pub store: Vec<u8>,
     pub answers: Vec<u8>,
+    pub shares: Vec<u8>,
 }
 
 pub const HEADER: usize = 8;
 pub const RECORD: usize = 12;
 pub const ANSWER: usize = 12;
+pub const SHARE: usize = 8;
 pub const BOARD: usize = 72;
 pub const MOST_RECORDS: usize = 4096;
 

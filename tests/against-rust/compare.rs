@@ -1,6 +1,7 @@
 //! The library's run on guarded copies of what is lent, and its comparison with the Rust's.
 
 use crate::bytes::*;
+use crate::tariff::shares_of;
 
 /// The memories of the store, in its order.
 pub const NAMES: [&str; 7] = ["EWRAM", "IWRAM", "I/O", "palette", "VRAM", "OAM", "SRAM"];
@@ -20,12 +21,15 @@ struct Lent {
 }
 
 impl Lent {
-    fn lend(&mut self, bytes: &[u8]) -> *mut u8 {
+    fn lend(&mut self, bytes: &[u8]) {
         self.len = bytes.len();
         self.room.clear();
         self.room.extend((0..GUARD).map(guard));
         self.room.extend_from_slice(bytes);
         self.room.extend((0..GUARD).map(guard));
+    }
+
+    fn start(&mut self) -> *mut u8 {
         self.room[GUARD..].as_mut_ptr()
     }
 
@@ -49,25 +53,22 @@ pub struct Library {
     bios: Lent,
     rom: Lent,
     answers: Lent,
+    shares: Lent,
 }
 
 impl Library {
-    /// Runs the case; an error tells what was changed that no run may change.
-    pub fn run(&mut self, case: &Case) -> Result<Outcome, String> {
-        let [ewram, iwram, io, palette, vram, oam, sram] = case.lengths;
-        let sheet = self.sheet.lend(&case.sheet);
-        let board = self.board.lend(&case.board);
-        let store = self.store.lend(&case.store);
-        let bios = self.bios.lend(&case.bios);
-        let rom = self.rom.lend(&case.rom);
-        let answers = self.answers.lend(&case.answers);
-        // each pointer is to so many bytes of a room of its own, which nothing else uses meanwhile
-        let report = unsafe {
-            bts_run(
-                sheet, case.sheet.len(), board, case.board.len(), store, case.store.len(),
-                bios, case.bios.len(), rom, case.rom.len(), answers, case.answers.len(),
-                ewram, iwram, io, palette, vram, oam, sram,
-            )
+    /// Runs the case, by `bts_run` or under a tariff; an error tells what was changed that no run may change.
+    pub fn run(&mut self, case: &Case, tariff: Option<&Tariff>) -> Result<Outcome, String> {
+        self.sheet.lend(&case.sheet);
+        self.board.lend(&case.board);
+        self.store.lend(&case.store);
+        self.bios.lend(&case.bios);
+        self.rom.lend(&case.rom);
+        self.answers.lend(&case.answers);
+        self.shares.lend(tariff.map_or(&[], |tariff| &tariff.shares));
+        let report = match tariff {
+            None => self.call_run(case.lengths).into(),
+            Some(tariff) => self.call_run_tariff(case.lengths, tariff.rate),
         };
         self.untouched(case)?;
         Ok(Outcome {
@@ -75,7 +76,36 @@ impl Library {
             board: self.board.bytes().to_vec(),
             store: self.store.bytes().to_vec(),
             answers: self.answers.bytes().to_vec(),
+            shares: self.shares.bytes().to_vec(),
         })
+    }
+
+    fn call_run(&mut self, lengths: [usize; 7]) -> Report {
+        let Library { sheet, board, store, bios, rom, answers, .. } = self;
+        let [ewram, iwram, io, palette, vram, oam, sram] = lengths;
+        // each pointer is to so many bytes of a room of its own, which nothing else uses meanwhile
+        unsafe {
+            bts_run(
+                sheet.start(), sheet.len, board.start(), board.len, store.start(), store.len,
+                bios.start(), bios.len, rom.start(), rom.len, answers.start(), answers.len,
+                ewram, iwram, io, palette, vram, oam, sram,
+            )
+        }
+    }
+
+    fn call_run_tariff(&mut self, lengths: [usize; 7], rate: u32) -> Bill {
+        let Library { sheet, board, store, bios, rom, answers, shares } = self;
+        let [ewram, iwram, io, palette, vram, oam, sram] = lengths;
+        // as above
+        unsafe {
+            bts_run_tariff(
+                sheet.start(), sheet.len, board.start(), board.len, store.start(), store.len,
+                bios.start(), bios.len, rom.start(), rom.len, answers.start(), answers.len,
+                shares.start(), shares.len,
+                ewram, iwram, io, palette, vram, oam, sram,
+                rate,
+            )
+        }
     }
 
     fn untouched(&self, case: &Case) -> Result<(), String> {
@@ -91,7 +121,7 @@ impl Library {
         }
         let all = [
             ("sheet", &self.sheet), ("board", &self.board), ("store", &self.store),
-            ("BIOS", &self.bios), ("ROM", &self.rom), ("answers", &self.answers),
+            ("BIOS", &self.bios), ("ROM", &self.rom), ("answers", &self.answers), ("shares", &self.shares),
         ];
         match all.iter().find(|(_, lent)| !lent.guards_kept()) {
             Some((name, _)) => Err(format!("a byte just outside {name} was changed")),
@@ -112,6 +142,9 @@ pub fn first_difference(case: &Case, rust: &Outcome, library: &Outcome) -> Optio
     if let Some(i) = first_byte(&rust.board, &library.board) {
         let (r, l) = (rust.board[i], library.board[i]);
         return Some(format!("board byte {i}: Rust {r:#04X}, library {l:#04X}"));
+    }
+    if let Some(i) = first_byte(&rust.shares, &library.shares) {
+        return Some(share_difference(rust, library, i));
     }
     let i = first_byte(&rust.store, &library.store)?;
     let (r, l) = (rust.store[i], library.store[i]);
@@ -141,6 +174,17 @@ fn answer_difference(case: &Case, rust: &Outcome, library: &Outcome, i: usize) -
     )
 }
 
+/// The Rust's side of a share is the second reading's (tariff.rs).
+fn share_difference(rust: &Outcome, library: &Outcome, i: usize) -> String {
+    let k = i / SHARE;
+    if rust.report.number != 0 || k >= rust.report.index as usize {
+        let (r, l) = (rust.shares[i], library.shares[i]);
+        return format!("share byte {i}, which must stay: Rust {r:#04X}, library {l:#04X}");
+    }
+    let share = |o: &Outcome| u64_at(&o.shares, SHARE * k);
+    format!("share of step {k}: Rust {}, library {}", share(rust), share(library))
+}
+
 /// The memory and offset of a byte of the store.
 fn place_in_store(case: &Case, i: usize) -> String {
     let mut start = 0;
@@ -155,17 +199,24 @@ fn place_in_store(case: &Case, i: usize) -> String {
 
 // ---- telling one case in full ----
 
-pub fn tell(case: &Case, rust: &Outcome, library: &Outcome) {
+pub fn tell(case: &Case, tariff: Option<&Tariff>, rust: &Outcome, library: &Outcome) {
+    println!("---- {}", function(tariff));
     let (store, bios, rom) = (case.store.len(), case.bios.len(), case.rom.len());
     println!("lengths {:?}, store {store}, BIOS {bios}, ROM {rom}", case.lengths);
     let header = &case.sheet[..case.sheet.len().min(HEADER)];
     println!("sheet of {} bytes, header {header:02X?}", case.sheet.len());
     tell_board("before ", &case.board);
-    for (k, r) in records_of(&case.sheet).iter().enumerate() {
+    let records = records_of(&case.sheet);
+    for (k, r) in records.iter().enumerate() {
         let answer = |o: &Outcome| o.answers.get(ANSWER * k..ANSWER * (k + 1)).map(Answer::of);
         let (a, b) = (answer(rust), answer(library));
         let mark = if a == b { "" } else { "   <<<" };
         println!("{k} {r:X?}\n    Rust    {a:X?}\n    library {b:X?}{mark}");
+    }
+    let shares = shares_of(&rust.shares).zip(shares_of(&library.shares)).take(records.len());
+    for (k, (a, b)) in shares.enumerate() {
+        let mark = if a == b { "" } else { "   <<<" };
+        println!("share {k}: Rust {a}, library {b}{mark}");
     }
     tell_board("Rust   ", &rust.board);
     tell_board("library", &library.board);
@@ -173,6 +224,14 @@ pub fn tell(case: &Case, rust: &Outcome, library: &Outcome) {
     for i in (0..case.store.len()).filter(|&i| rust.store[i] != library.store[i]).take(40) {
         let (place, r, l) = (place_in_store(case, i), rust.store[i], library.store[i]);
         println!("store byte {i} ({place}): Rust {r:#04X}, library {l:#04X}");
+    }
+}
+
+/// The function that is called, in words.
+pub fn function(tariff: Option<&Tariff>) -> String {
+    match tariff {
+        None => "bts_run".to_string(),
+        Some(tariff) => format!("bts_run_tariff at rate {}, {} bytes of shares", tariff.rate, tariff.shares.len()),
     }
 }
 

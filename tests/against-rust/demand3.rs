@@ -1,9 +1,11 @@
-//! What demand 3 says of one accepted run and of two: the limits on the total, the columns that agree.
+//! What demand 3 says of one accepted run and of two: the limits on the total, the columns that agree, the shares with them.
 
 use crate::bytes::*;
+use crate::tariff::shares_of;
 
-/// Where two runs with alike sheets and boards differ in answer bytes 4–7, 9 or 10, in byte 8 of any step but WRITE, or in the
-/// total. The hits of a WRITE, the bytes that landed, are compared only where W-201 makes them equal.
+/// Where two runs with alike sheets and boards differ in answer bytes 4–7, 9 or 10, in byte 8 of any step but WRITE, in the
+/// total, or, being under one rate, in a share or the charge. The hits of a WRITE, the bytes that landed, are compared only
+/// where W-201 makes them equal.
 pub fn pair_difference(first: &Case, second: &Case, a: &Outcome, b: &Outcome) -> Option<String> {
     let landings = same_landings(first, second);
     for (k, record) in records_of(&first.sheet).iter().enumerate() {
@@ -23,7 +25,16 @@ pub fn pair_difference(first: &Case, second: &Case, a: &Outcome, b: &Outcome) ->
     if total != other {
         return Some(format!("two alike runs have totals {total} and {other}"));
     }
-    None
+    bill_difference(a, b)
+}
+
+fn bill_difference(a: &Outcome, b: &Outcome) -> Option<String> {
+    let shares = shares_of(&a.shares).zip(shares_of(&b.shares)).take(a.report.index as usize);
+    if let Some((k, (ours, other))) = shares.enumerate().find(|(_, (ours, other))| ours != other) {
+        return Some(format!("two alike runs give step {k} shares of {ours} and {other}"));
+    }
+    let (charge, other) = (a.report.charge, b.report.charge);
+    (charge != other).then(|| format!("two alike runs have charges {charge} and {other}"))
 }
 
 /// Whether the same bytes of both stores must be written at each WRITE: the number depends on the lengths and the display mode

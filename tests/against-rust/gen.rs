@@ -1,5 +1,6 @@
 //! Seeded cases: all of a case follows from its seed, so that any case can be run again.
 
+use crate::bills;
 use crate::boards;
 use crate::bytes::*;
 use crate::demand3::stores_mode;
@@ -21,13 +22,25 @@ pub struct Plan {
     /// The number that the run must give by the way the case was made, where that is known.
     /// It holds the Rust side's refusals against a second view.
     pub meant: Option<u32>,
+    /// The tariff that the case is made for, if it is.
+    pub terms: Option<Terms>,
 }
 
-/// The four buffers whose contents before the run a plan leaves open.
+/// A tariff but for what its shares hold.
+#[derive(Clone, Copy)]
+pub struct Terms {
+    pub shares_len: usize,
+    pub rate: u32,
+    /// The number that the run must give under it, as above.
+    pub meant: Option<u32>,
+}
+
+/// The five buffers whose contents before the run a plan leaves open.
 pub const STORE: u64 = 1;
 pub const BIOS: u64 = 2;
 pub const ROM: u64 = 3;
 pub const ANSWERS: u64 = 4;
+pub const SHARES: u64 = 5;
 
 impl Plan {
     /// The case, with contents given by tag and length.
@@ -40,6 +53,7 @@ impl Plan {
             bios: contents(BIOS, self.bios_len),
             rom: contents(ROM, self.rom_len),
             answers: contents(ANSWERS, self.answers_len),
+            tariff: self.terms.map(|terms| Tariff { shares: contents(SHARES, terms.shares_len), rate: terms.rate }),
         }
     }
 
@@ -63,9 +77,28 @@ impl Plan {
             rom_len: memories.rom,
             answers_len: ANSWER * records.len(),
             meant: Some(0),
+            terms: None,
         }
     }
+
+    /// The plan under a tariff, for which the run must give this number.
+    pub fn billed(self, shares_len: usize, rate: u32, meant: u32) -> Plan {
+        Plan { terms: Some(Terms { shares_len, rate, meant: Some(meant) }), ..self }
+    }
+
+    pub fn meant(&self) -> Meant {
+        Meant { run: self.meant, tariff: self.terms.and_then(|terms| terms.meant) }
+    }
 }
+
+/// The numbers that a case must give, where they are known: without a tariff, and under its own.
+#[derive(Clone, Copy)]
+pub struct Meant {
+    pub run: Option<u32>,
+    pub tariff: Option<u32>,
+}
+
+pub const ACCEPTED: Meant = Meant { run: Some(0), tariff: Some(0) };
 
 /// Byte i of the buffer `tag` under fill seed `seed`.
 pub fn rule_byte(seed: u32, tag: u64, i: usize) -> u8 {
@@ -171,8 +204,8 @@ pub fn accepted(rng: &mut Rng, large: usize) -> Plan {
     plan
 }
 
-/// Two accepted runs with alike sheets and alike boards, all else different (demand 3), but in half of the pairs the lengths and
-/// the display modes, so that what lands must agree too (W-201).
+/// Two accepted runs under one rate with alike sheets and alike boards, all else different (demand 3), but in half of the pairs
+/// the lengths and the display modes, so that what lands must agree too (W-201).
 pub fn pair(seed: u64) -> (Case, Case) {
     let mut rng = Rng::new(seed);
     let first = accepted(&mut rng, 2);
@@ -185,6 +218,8 @@ pub fn pair(seed: u64) -> (Case, Case) {
         records_of(&first.sheet).into_iter().map(|r| alike_record(&mut rng, r, same)).collect();
     let board = alike_board(&mut rng, Board::of(&first.board));
     let second = Plan::accepted(board, &memories, &records);
+    let rate = bills::good_rate(&mut rng);
+    let [first, second] = [first, second].map(|plan| plan.billed(bills::enough(&mut rng, records.len()), rate, 0));
     let (first, mut second) = (first.random_case(&mut rng), second.random_case(&mut rng));
     if same && first.lengths[IO] > 0 {
         let mode: usize = first.lengths[..IO].iter().sum();

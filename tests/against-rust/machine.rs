@@ -21,14 +21,15 @@ pub const SIZES: [usize; 7] =
 
 // ---- the run ----
 
-/// The whole run: a refusal that leaves every byte, or all records in order.
+/// The whole run: a refusal that leaves every byte, or all records in order. Of a tariff the Rust has nothing (tariff.rs).
 pub fn run(case: &Case) -> Outcome {
     if let Some((number, index)) = refusal(case) {
         return Outcome {
-            report: Report { number, index, total: 0 },
+            report: Report { number, index, total: 0 }.into(),
             board: case.board.clone(),
             store: case.store.clone(),
             answers: case.answers.clone(),
+            shares: Vec::new(),
         };
     }
     let mut machine = Machine::new(case);
@@ -44,10 +45,11 @@ pub fn run(case: &Case) -> Outcome {
         probes.check_rest();
     }
     Outcome {
-        report: Report { number: 0, index: records.len() as u32, total },
+        report: Report { number: 0, index: records.len() as u32, total }.into(),
         board: machine.board().bytes(),
         store: machine.store(),
         answers,
+        shares: Vec::new(),
     }
 }
 

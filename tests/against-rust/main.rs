@@ -1,6 +1,7 @@
-//! Compares `bts_run` of libbts.a with document 01's run done by the Rust, byte for byte.
+//! Compares `bts_run` and `bts_run_tariff` of libbts.a with document 01's run done by the Rust, byte for byte.
 //! See README.md for what is compared and how to run it.
 
+mod bills;
 mod boards;
 mod bytes;
 mod compare;
@@ -15,12 +16,15 @@ mod notation;
 mod refusals;
 mod rng;
 mod sample;
+mod sample_bills;
 mod steps;
 mod sweeps;
+mod tariff;
+mod tariffs;
 
 use bytes::*;
 use compare::Library;
-use gen::{Plan, Rng};
+use gen::{Meant, Plan, Rng, ACCEPTED};
 use std::time::{Duration, Instant};
 
 /// After so many differences the comparison gives up.
@@ -57,35 +61,49 @@ impl Tally {
         println!("DIFFERENCE in case {name}: {what}");
     }
 
-    /// Runs the case on both sides and compares; what both gave, if they agree.
-    fn case(&mut self, name: &str, case: &Case, meant: Option<u32>) -> Option<Outcome> {
+    /// Runs the case twice on both sides and compares: without a tariff, and under its own or one that follows from its name.
+    /// What both gave, if they agree: under its own tariff, if it has one, else without.
+    fn case(&mut self, name: &str, case: &Case, meant: Meant) -> Option<Outcome> {
         if self.names {
             println!("case {name}");
         }
         let _told = ToldOnPanic(name);
         let rust = machine::run(case);
+        let plain = self.run(name, case, None, &rust, meant.run);
+        let Some(tariff) = &case.tariff else {
+            let tariff = bills::of_name(name, case);
+            self.run(name, case, Some(&tariff), &tariff::under(case, &tariff, &rust), None);
+            return plain;
+        };
+        let billed = self.run(name, case, Some(tariff), &tariff::under(case, tariff, &rust), meant.tariff);
+        plain.and(billed)
+    }
+
+    /// Runs the case by the library, under a tariff or not, and holds it against the Rust's side; what both gave, if they agree.
+    fn run(
+        &mut self,
+        name: &str,
+        case: &Case,
+        tariff: Option<&Tariff>,
+        rust: &Outcome,
+        meant: Option<u32>,
+    ) -> Option<Outcome> {
         self.cases += 1;
         match rust.report.number {
             0 => self.steps += u64::from(rust.report.index),
             _ => self.refused += 1,
         }
-        self.check_rust(name, &rust, meant);
-        let library = match self.library.run(case) {
-            Ok(outcome) => outcome,
-            Err(what) => {
-                self.differ(name, &what);
-                return None;
+        self.check_rust(name, rust, meant);
+        let compared = self.library.run(case, tariff).and_then(|library| {
+            if self.only.is_some() {
+                compare::tell(case, tariff, rust, &library);
             }
-        };
-        if self.only.is_some() {
-            compare::tell(case, &rust, &library);
-        }
-        let difference = compare::first_difference(case, &rust, &library);
-        if let Some(what) = difference.or_else(|| demand3::past_limits(case, &library)) {
-            self.differ(name, &what);
-            return None;
-        }
-        Some(library)
+            let difference = compare::first_difference(case, rust, &library)
+                .or_else(|| demand3::past_limits(case, &library))
+                .or_else(|| tariff.and_then(|tariff| tariff::unfair(case, tariff, &library)));
+            difference.map_or(Ok(library), Err)
+        });
+        compared.map_err(|what| self.differ(name, &format!("{}: {what}", compare::function(tariff)))).ok()
     }
 
     /// The Rust side against what is known beforehand: the refusal that was made, and a sound board kept.
@@ -101,7 +119,7 @@ impl Tally {
 
     fn plan(&mut self, name: &str, plan: &Plan, case: impl FnOnce() -> Case) {
         if self.wants(name) {
-            self.case(name, &case(), plan.meant);
+            self.case(name, &case(), plan.meant());
         }
     }
 
@@ -119,6 +137,12 @@ impl Tally {
         }
     }
 
+    fn tariffs(&mut self) {
+        for (i, (input, claims)) in tariffs::TARIFFS.iter().enumerate() {
+            self.line(&format!("tariff:{i}"), input, claims);
+        }
+    }
+
     fn differences_file(&mut self, path: &str) {
         let text = std::fs::read_to_string(path).map_err(|e| e.to_string());
         match text.and_then(|text| differences::lines_of(&text)) {
@@ -133,7 +157,7 @@ impl Tally {
             return;
         }
         let result = notation::case_of(input).and_then(|case| {
-            let Some(library) = self.case(name, &case, Some(0)) else { return Ok(0) };
+            let Some(library) = self.case(name, &case, ACCEPTED) else { return Ok(0) };
             // the two agree, so that one of them stands for both
             notation::check(claims, &case, &library)
         });
@@ -164,15 +188,21 @@ impl Tally {
 
     fn random(&mut self, seed: u64) {
         let (plan, case) = gen::random(seed);
-        self.case(&format!("random:{seed}"), &case, plan.meant);
+        self.case(&format!("random:{seed}"), &case, plan.meant());
+    }
+
+    /// A list at the edges of the rounding, under a tariff.
+    fn bill(&mut self, seed: u64) {
+        let (plan, case) = bills::random(seed);
+        self.case(&format!("bill:{seed}"), &case, plan.meant());
     }
 
     /// Demand 3 on two runs.
     fn pair(&mut self, seed: u64) {
         let name = format!("pair:{seed}");
         let (first, second) = gen::pair(seed);
-        let a = self.case(&name, &first, Some(0));
-        let b = self.case(&name, &second, Some(0));
+        let a = self.case(&name, &first, ACCEPTED);
+        let b = self.case(&name, &second, ACCEPTED);
         self.pairs += 1;
         let (Some(a), Some(b)) = (a, b) else { return };
         if let Some(what) = demand3::pair_difference(&first, &second, &a, &b) {
@@ -212,7 +242,7 @@ const USAGE: &str = "usage: run [--names] [SECONDS] | SECONDS --from SEED | --ca
 --names: name each case before it is run
 SECONDS: for the random part, 100 if not given
 --from: the random part alone, from this seed on
-NAME: random:SEED (or SEED alone), pair:SEED, sweep:N, sample:N, figure:N, landing:N, D-N.K";
+NAME: random:SEED (or SEED alone), pair:SEED, bill:SEED, sweep:N, sample:N, figure:N, landing:N, tariff:N, D-N.K";
 
 fn order(words: &[String]) -> Option<Order> {
     let words: Vec<&str> = words.iter().map(String::as_str).collect();
@@ -257,6 +287,9 @@ fn compare_all(tally: &mut Tally, seconds: u64) {
     tally.landings();
     told(tally, &format!("the landings ({} values)", tally.claims));
     tally.claims = 0;
+    tally.tariffs();
+    told(tally, &format!("the tariffs ({} values)", tally.claims));
+    tally.claims = 0;
     tally.differences_file(DIFFERENCES);
     told(tally, &format!("{DIFFERENCES} ({} values)", tally.claims));
     tally.sample();
@@ -266,19 +299,19 @@ fn compare_all(tally: &mut Tally, seconds: u64) {
     random_part(tally, seconds, 1);
 }
 
-/// One case in sixteen is a pair.
+/// One case in sixteen is a pair, and one is a bill.
 fn random_part(tally: &mut Tally, seconds: u64, from: u64) {
     let end = Instant::now() + Duration::from_secs(seconds);
     let mut seed = from;
     while !tally.full() && Instant::now() < end {
-        if seed % 16 == 0 {
-            tally.pair(seed);
-        } else {
-            tally.random(seed);
+        match seed % 16 {
+            0 => tally.pair(seed),
+            8 => tally.bill(seed),
+            _ => tally.random(seed),
         }
         seed += 1;
     }
-    told(tally, &format!("random cases and pairs, seeds {from} to {}", seed - 1));
+    told(tally, &format!("random cases, pairs and bills, seeds {from} to {}", seed - 1));
 }
 
 fn told(tally: &Tally, part: &str) {
@@ -290,10 +323,12 @@ fn one_case(tally: &mut Tally, name: &str) {
     match name.split_once(':') {
         Some(("random", seed)) => tally.random(seed.parse().expect("a seed")),
         Some(("pair", seed)) => tally.pair(seed.parse().expect("a seed")),
+        Some(("bill", seed)) => tally.bill(seed.parse().expect("a seed")),
         Some(("sweep", _)) => tally.sweeps(),
         Some(("sample", _)) => tally.sample(),
         Some(("figure", _)) => tally.figures(),
         Some(("landing", _)) => tally.landings(),
+        Some(("tariff", _)) => tally.tariffs(),
         _ => tally.differences_file(DIFFERENCES),
     }
 }
@@ -305,7 +340,12 @@ fn record(tally: &mut Tally, file: &str) {
     let mut out = (plans.len() as u32).to_le_bytes().to_vec();
     for i in 0..plans.len() {
         let case = sample::case_at(&plans, i);
-        out.extend(sample::encode(&case, i as u32, &machine::run(&case)));
+        let plain = machine::run(&case);
+        let given = match &case.tariff {
+            Some(tariff) => tariff::under(&case, tariff, &plain),
+            None => plain,
+        };
+        out.extend(sample::encode(&case, i as u32, &given));
     }
     std::fs::write(file, &out).unwrap_or_else(|e| panic!("{file}: {e}"));
     println!("{file}: {} cases, {} bytes; at most {:?} lent", plans.len(), out.len(), sample::MOST);

@@ -3,6 +3,7 @@
 use crate::bytes::*;
 use crate::compare::NAMES;
 use crate::machine::{BIOS_SIZE, ROM_WINDOW_SIZE, SIZES};
+use crate::tariff::shares_of;
 
 // ---- inputs ----
 
@@ -22,6 +23,7 @@ struct Setting {
     rom: Vec<u8>,
     board: Board,
     records: Vec<Record>,
+    rate: Option<u32>,
 }
 
 impl Setting {
@@ -33,10 +35,12 @@ impl Setting {
             rom: Vec::new(),
             board: Board::default(),
             records: Vec::new(),
+            rate: None,
         }
     }
 
     fn case(self) -> Case {
+        let shares = vec![0x3C; SHARE * self.records.len()];
         Case {
             sheet: sheet_of(&self.records),
             board: self.board.bytes(),
@@ -45,6 +49,7 @@ impl Setting {
             bios: self.bios,
             rom: self.rom,
             answers: vec![0x3C; ANSWER * self.records.len()],
+            tariff: self.rate.map(|rate| Tariff { shares, rate }),
         }
     }
 
@@ -75,6 +80,7 @@ impl Setting {
             [name, "of", length, "byte" | "bytes"] => self.lend(name, vec![0; number(length)? as usize])?,
             ["board", "WAITCNT", value] => self.board.waitcnt = number(value)?.try_into().ok()?,
             ["board", "VRAM", "counter", value] => self.board.vram = number(value)?,
+            ["rate", rate] => self.rate = Some(word(rate)?),
             _ => self.records.push(step(words)?),
         }
         Some(())
@@ -177,6 +183,9 @@ enum Claim {
     /// Those of the last steps.
     Cycles(Vec<u64>),
     Total(u64),
+    /// Those of the last steps, in cents.
+    Shares(Vec<u64>),
+    Charge(u64),
     /// A memory's byte after the run.
     Byte(usize, u64, u64),
     /// How many bytes of the store the run changed.
@@ -195,13 +204,11 @@ impl Claim {
             ["count", v, ..] => (Claim::Count(number(v)?), 2),
             ["flag", v, ..] => (Claim::Flag(number(v)?), 2),
             ["total", v, ..] => (Claim::Total(number(v)?), 2),
+            ["charge", v, ..] => (Claim::Charge(number(v)?), 2),
             ["changed", v, ..] => (Claim::Changed(number(v)?), 2),
-            [what @ ("cycles" | "hits"), first, rest @ ..] => {
-                let mut list = vec![number(first)?];
-                list.extend(rest.iter().map_while(|w| number(w)));
-                let used = 1 + list.len();
-                (if *what == "hits" { Claim::Hits(list) } else { Claim::Cycles(list) }, used)
-            }
+            ["cycles", rest @ ..] => Claim::list(rest, Claim::Cycles)?,
+            ["hits", rest @ ..] => Claim::list(rest, Claim::Hits)?,
+            ["shares", rest @ ..] => Claim::list(rest, Claim::Shares)?,
             [v, "cycle" | "cycles", ..] => (Claim::Cycles(vec![number(v)?]), 2),
             [memory, "byte", at, v, ..] => {
                 let which = NAMES.iter().position(|n| n == memory)?;
@@ -211,21 +218,31 @@ impl Claim {
         })
     }
 
+    /// A claim about the last steps: a word and a number for each.
+    fn list(words: &[&str], claim: fn(Vec<u64>) -> Claim) -> Option<(Claim, usize)> {
+        let list: Vec<u64> = words.iter().map_while(|w| number(w)).collect();
+        let used = 1 + list.len();
+        (used > 1).then(|| (claim(list), used))
+    }
+
     fn hold(&self, case: &Case, outcome: &Outcome) -> Result<(), String> {
         let answers: Vec<Answer> = outcome.answers.chunks_exact(ANSWER).map(Answer::of).collect();
-        let last = *answers.last().ok_or("no step")?;
+        let last = || answers.last().ok_or("no step");
+        let column = |of: fn(&Answer) -> u64| -> Vec<u64> { answers.iter().map(of).collect() };
         let board = Board::of(&outcome.board);
         match self {
             Claim::Waitcnt(v) => same("board WAITCNT", *v, board.waitcnt.into()),
             Claim::VramCounter(v) => same("VRAM counter", *v, board.vram),
             Claim::OamCounter(v) => same("OAM counter", *v, board.oam),
             Claim::PaletteCounter(v) => same("palette counter", *v, board.palette),
-            Claim::Value(v) => same("value", *v, last.value.into()),
-            Claim::Hits(list) => same_list("hits", list, &answers, |a| a.hits.into()),
-            Claim::Count(v) => same("count", *v, last.count.into()),
-            Claim::Flag(v) => same("flag", *v, last.force.into()),
+            Claim::Value(v) => same("value", *v, last()?.value.into()),
+            Claim::Hits(list) => same_list("hits", list, &column(|a| a.hits.into())),
+            Claim::Count(v) => same("count", *v, last()?.count.into()),
+            Claim::Flag(v) => same("flag", *v, last()?.force.into()),
             Claim::Total(v) => same("total", *v, outcome.report.total),
-            Claim::Cycles(list) => same_list("cycles", list, &answers, |a| a.cycles.into()),
+            Claim::Cycles(list) => same_list("cycles", list, &column(|a| a.cycles.into())),
+            Claim::Shares(list) => same_list("shares", list, &shares_of(&outcome.shares).collect::<Vec<_>>()),
+            Claim::Charge(v) => same("charge", *v, outcome.report.charge),
             Claim::Byte(which, at, v) => {
                 let start: usize = case.lengths[..*which].iter().sum();
                 let byte = outcome.store[start + *at as usize];
@@ -240,9 +257,9 @@ impl Claim {
 }
 
 /// The numbers of the last steps.
-fn same_list(what: &str, list: &[u64], answers: &[Answer], of: impl Fn(&Answer) -> u64) -> Result<(), String> {
-    let skipped = answers.len().checked_sub(list.len()).ok_or(format!("more {what} than steps"))?;
-    list.iter().zip(&answers[skipped..]).try_for_each(|(v, a)| same(what, *v, of(a)))
+fn same_list(what: &str, list: &[u64], given: &[u64]) -> Result<(), String> {
+    let skipped = given.len().checked_sub(list.len()).ok_or(format!("more {what} than steps"))?;
+    list.iter().zip(&given[skipped..]).try_for_each(|(claimed, given)| same(what, *claimed, *given))
 }
 
 fn same(what: &str, claimed: u64, given: u64) -> Result<(), String> {

@@ -1,42 +1,83 @@
-//! Cases that a run must refuse: each of the seven conditions alone, several at once, random damage.
+//! Cases that a run must refuse: each of the seven conditions alone, several at once, random damage; and under a tariff, which
+//! adds an eighth.
 
+use crate::bills;
 use crate::boards;
 use crate::bytes::*;
 use crate::gen::{self, Plan, Rng};
 use crate::machine::{BIOS_SIZE, ROM_WINDOW_SIZE, SIZES};
 
 pub fn one(rng: &mut Rng) -> Plan {
-    let number = 1 + rng.below(7) as u32;
-    with(rng, &[number])
+    let number = 1 + rng.below(8) as u32;
+    let short = rng.pick(&SHORT);
+    under_tariff(rng, &[number], short)
 }
 
 /// Two conditions or more: the first in the table's order decides.
 pub fn several(rng: &mut Rng) -> Plan {
-    let set = 1 + rng.below(127);
-    let numbers: Vec<u32> = (1..=7).filter(|k| set >> (k - 1) & 1 == 1).collect();
-    with(rng, &numbers)
+    let numbers = set_of_eight(1 + rng.below(255));
+    let short = rng.pick(&SHORT);
+    under_tariff(rng, &numbers, short)
+}
+
+/// The conditions of a set, whose lowest bit is that of 1.
+pub fn set_of_eight(set: usize) -> Vec<u32> {
+    (1..=8).filter(|k| set >> (k - 1) & 1 == 1).collect()
 }
 
 /// An accepted plan with these conditions made true (given in rising order).
 pub fn with(rng: &mut Rng, numbers: &[u32]) -> Plan {
+    let mut plan = some_steps(rng);
+    make_true(rng, &mut plan, numbers);
+    plan
+}
+
+/// Which buffers are too short where a run under a tariff meets 6.
+#[derive(Clone, Copy, PartialEq)]
+pub enum Short {
+    Answers,
+    Shares,
+    Both,
+}
+
+pub const SHORT: [Short; 3] = [Short::Answers, Short::Shares, Short::Both];
+
+/// The same under a tariff, for which 8 is a bad rate. Without a tariff 8 isn't met, nor is 6 where only the shares are short.
+pub fn under_tariff(rng: &mut Rng, numbers: &[u32], short: Short) -> Plan {
+    let mut plan = some_steps(rng);
+    let n = record_count(&plan.sheet);
+    let short_shares = numbers.contains(&6) && short != Short::Answers;
+    let shares_len = if short_shares { bills::too_few(rng, n) } else { bills::enough(rng, n) };
+    let rate = if numbers.contains(&8) { bills::bad_rate(rng) } else { bills::good_rate(rng) };
+    let of_run = |k: u32| k < 8 && (k != 6 || short != Short::Shares);
+    let numbers_of_run: Vec<u32> = numbers.iter().copied().filter(|&k| of_run(k)).collect();
+    make_true(rng, &mut plan, &numbers_of_run);
+    plan.billed(shares_len, rate, numbers.first().copied().unwrap_or(0))
+}
+
+/// An accepted plan with a record, which 6 and 7 need.
+fn some_steps(rng: &mut Rng) -> Plan {
     let mut plan = gen::accepted(rng, 1);
     while plan.sheet.len() == HEADER {
-        plan = gen::accepted(rng, 1); // 6 and 7 need a record
+        plan = gen::accepted(rng, 1);
     }
+    plan
+}
+
+fn make_true(rng: &mut Rng, plan: &mut Plan, numbers: &[u32]) {
     // from the last to the first, since damage to the header hides where the records are
     for &number in numbers.iter().rev() {
         match number {
-            1 => no_sheet(rng, &mut plan),
-            2 => other_version(rng, &mut plan),
-            3 => header_wrong(rng, &mut plan),
-            4 => lengths_wrong(rng, &mut plan),
-            5 => board_wrong(rng, &mut plan),
-            6 => answers_short(rng, &mut plan),
-            _ => record_faulty(rng, &mut plan),
+            1 => no_sheet(rng, plan),
+            2 => other_version(rng, plan),
+            3 => header_wrong(rng, plan),
+            4 => lengths_wrong(rng, plan),
+            5 => board_wrong(rng, plan),
+            6 => answers_short(rng, plan),
+            _ => record_faulty(rng, plan),
         }
     }
-    plan.meant = numbers.first().copied();
-    plan
+    plan.meant = Some(numbers.first().copied().unwrap_or(0));
 }
 
 fn no_sheet(rng: &mut Rng, plan: &mut Plan) {

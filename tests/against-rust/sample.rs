@@ -8,18 +8,20 @@ use crate::gen::{Memories, Plan, Rng};
 use crate::machine::{BIOS_SIZE, SIZES};
 use crate::notation;
 use crate::refusals;
+use crate::sample_bills;
 use crate::steps::Steps;
 use crate::sweeps::{edge_plan, end_plan, fill, one_of_each, ENDS};
 
 /// The most that a case of the sample lends, so that a replaying program can have fixed buffers:
-/// sheet, board, store, BIOS, ROM, answers.
-pub const MOST: [usize; 6] = [
+/// sheet, board, store, BIOS, ROM, answers, shares.
+pub const MOST: [usize; 7] = [
     HEADER + RECORD * (MOST_RECORDS + 1),
     144,
     462_852 + 1,
     BIOS_SIZE + 1,
     0x20040,
     ANSWER * (MOST_RECORDS + 1),
+    SHARE * (MOST_RECORDS + 1),
 ];
 
 /// The cases of the sample in order; a case's place is its fill seed.
@@ -35,6 +37,7 @@ pub fn plans() -> Vec<Plan> {
     list_lengths(&mut plans);
     full_memories(&mut plans);
     memory_ends(&mut plans);
+    sample_bills::add(&mut plans);
     plans
 }
 
@@ -43,11 +46,11 @@ pub fn case_at(plans: &[Plan], place: usize) -> Case {
     plans[place].rule_case(place as u32)
 }
 
-fn few() -> Memories {
+pub fn few() -> Memories {
     Memories { lengths: [40, 33, 8, 16, 24, 5, 7], bios: 32, rom: 0x140 }
 }
 
-fn prefetch_on() -> Board {
+pub fn prefetch_on() -> Board {
     Board { waitcnt: 0x4000, ..Board::default() }
 }
 
@@ -121,11 +124,11 @@ fn fills(plans: &mut Vec<Plan>) {
 fn refused(plans: &mut Vec<Plan>) {
     for first in 1..=7 {
         for turn in 0..5 {
-            plans.push(small_enough(100 * u64::from(first) + turn, |rng| refusals::with(rng, &[first])));
+            plans.push(small_enough(1500, 100 * u64::from(first) + turn, |rng| refusals::with(rng, &[first])));
         }
         for second in first + 1..=7 {
             let seed = u64::from(10 * first + second);
-            plans.push(small_enough(seed, |rng| refusals::with(rng, &[first, second])));
+            plans.push(small_enough(1500, seed, |rng| refusals::with(rng, &[first, second])));
         }
     }
     for way in 0..2 * boards::WAYS_TO_BREAK {
@@ -141,18 +144,18 @@ fn refused(plans: &mut Vec<Plan>) {
         plans.push(plan);
     }
     for seed in 0..20 {
-        plans.push(small_enough(5000 + seed, refusals::damaged));
+        plans.push(small_enough(1500, 5000 + seed, refusals::damaged));
     }
 }
 
-/// The first plan from this seed on that keeps to the sample's limits.
-fn small_enough(seed: u64, make: impl Fn(&mut Rng) -> Plan) -> Plan {
+/// The first plan from this seed on that keeps to the sample's limits, and whose sheet and answers have at most so many bytes.
+pub fn small_enough(most: usize, seed: u64, make: impl Fn(&mut Rng) -> Plan) -> Plan {
     let fits = |plan: &Plan| {
-        plan.sheet.len() <= 1500
+        plan.sheet.len() <= most
             && plan.store_len <= 300_000
             && plan.bios_len <= BIOS_SIZE + 1
             && plan.rom_len <= 0x20040
-            && plan.answers_len <= 1500
+            && plan.answers_len <= most
             && plan.lengths.iter().all(|&length| length < 1 << 32)
     };
     (0..).map(|turn| make(&mut Rng::new(seed + 1_000_000 * turn))).find(fits).unwrap()
@@ -232,23 +235,18 @@ fn memory_ends(plans: &mut Vec<Plan>) {
 
 // ---- the file ----
 
-/// One case: lengths, fill seed, sheet, board, and what the Rust gives.
+/// One case: its head, sheet, board, and what the Rust gives; under a tariff, what tariff.rs makes of that.
 pub fn encode(case: &Case, fill_seed: u32, rust: &Outcome) -> Vec<u8> {
-    let mut out = Vec::new();
-    let mut word = |n: usize| out.extend(u32::try_from(n).unwrap().to_le_bytes());
-    for (buffer, most) in buffers(case).into_iter().zip(MOST) {
-        assert!(buffer.len() <= most);
-        word(buffer.len());
-    }
-    case.lengths.iter().for_each(|&length| word(length));
-    word(fill_seed as usize);
+    let mut out = head(case, fill_seed);
     out.extend(&case.sheet);
     out.extend(&case.board);
     out.extend(rust.report.number.to_le_bytes());
     out.extend(rust.report.index.to_le_bytes());
     out.extend(rust.report.total.to_le_bytes());
+    out.extend(rust.report.charge.to_le_bytes());
     out.extend(&rust.board);
     out.extend(&rust.answers);
+    out.extend(&rust.shares);
     let changed: Vec<usize> = (0..case.store.len()).filter(|&i| case.store[i] != rust.store[i]).collect();
     out.extend((changed.len() as u32).to_le_bytes());
     for i in changed {
@@ -258,7 +256,20 @@ pub fn encode(case: &Case, fill_seed: u32, rust: &Outcome) -> Vec<u8> {
     out
 }
 
-/// The six buffers, in the order of the file's lengths.
-pub fn buffers(case: &Case) -> [&Vec<u8>; 6] {
-    [&case.sheet, &case.board, &case.store, &case.bios, &case.rom, &case.answers]
+/// The functions of the library, as the head numbers them.
+const RUN: usize = 0;
+const RUN_TARIFF: usize = 1;
+
+/// The 17 numbers before the bytes of a case: what is lent is told by its length.
+fn head(case: &Case, fill_seed: u32) -> Vec<u8> {
+    let (shares, function, rate) = match &case.tariff {
+        None => (0, RUN, 0),
+        Some(tariff) => (tariff.shares.len(), RUN_TARIFF, tariff.rate),
+    };
+    let lent = [&case.sheet, &case.board, &case.store, &case.bios, &case.rom, &case.answers].map(Vec::len);
+    assert!(lent.into_iter().chain([shares]).zip(MOST).all(|(length, most)| length <= most));
+    let mut numbers = lent.to_vec();
+    numbers.extend(case.lengths);
+    numbers.extend([fill_seed as usize, shares, function, rate as usize]);
+    numbers.into_iter().flat_map(|n| u32::try_from(n).unwrap().to_le_bytes()).collect()
 }

@@ -1,10 +1,11 @@
-//! Inputs gone through one by one: header, record and board bytes, opcodes, WAITCNT, regions, lengths.
+//! Inputs gone through one by one: header, record and board bytes, opcodes, WAITCNT, regions, lengths, rates.
 
+use crate::bills::{self, MILLION};
 use crate::boards::{self, CODE_EDGES};
 use crate::bytes::*;
 use crate::gen::{Memories, Plan, Rng};
 use crate::machine::{BIOS_SIZE, ROM_WINDOW_SIZE, SIZES};
-use crate::refusals;
+use crate::refusals::{self, SHORT};
 use crate::steps::EDGES;
 
 pub fn for_each(visit: &mut dyn FnMut(Plan)) {
@@ -22,6 +23,9 @@ pub fn for_each(visit: &mut dyn FnMut(Plan)) {
     edges(visit);
     memory_lengths(visit);
     ends(visit);
+    rates(visit);
+    share_lengths(visit);
+    rounding(visit);
 }
 
 fn small() -> Memories {
@@ -57,12 +61,17 @@ pub fn one_of_each() -> Vec<Record> {
     ]
 }
 
-/// Every set of the seven refusals, eight times.
+/// Every set of the eight refusals under a tariff, 6 by either buffer and by both, eight times. Without the tariff they are the
+/// sets of the seven, and some are accepted.
 fn refusal_sets(visit: &mut dyn FnMut(Plan)) {
-    for set in 1..128u64 {
-        let numbers: Vec<u32> = (1..=7).filter(|k| set >> (k - 1) & 1 == 1).collect();
-        for turn in 0..8 {
-            visit(refusals::with(&mut Rng::new(1000 * set + turn), &numbers));
+    for set in 1..256 {
+        let numbers = refusals::set_of_eight(set);
+        let ways = if numbers.contains(&6) { &SHORT[..] } else { &SHORT[..1] };
+        for (way, &short) in ways.iter().enumerate() {
+            for turn in 0..8 {
+                let seed = 1000 * set + 10 * way + turn;
+                visit(refusals::under_tariff(&mut Rng::new(seed as u64), &numbers, short));
+            }
         }
     }
 }
@@ -360,4 +369,78 @@ pub fn end_plan(mode: u32, lengths: [usize; 7], more: usize) -> Plan {
         }
     }
     Plan::accepted(Board::default(), &memories, &records)
+}
+
+// ---- tariffs (W-202) ----
+
+/// Rates around both ends and around each power of two, and those that are a good rate but for one bit.
+fn rates(visit: &mut dyn FnMut(Plan)) {
+    let around = |rate: u32| (0..=6).map(move |by| (rate + by).saturating_sub(3));
+    let powers = (0..32).map(|bit| 1u32 << bit);
+    let mut rates: Vec<u32> = around(0).chain(around(MILLION)).collect();
+    rates.extend(powers.clone().flat_map(|power| [power - 1, power, power + 1]));
+    rates.extend(powers.flat_map(|power| [MILLION ^ power, 307 ^ power]));
+    rates.push(u32::MAX);
+    for rate in rates {
+        let number = if (1..=MILLION).contains(&rate) { 0 } else { 8 };
+        for records in [vec![], one_of_each(), vec![Record::new(IDLE, 0, 0, u32::MAX); 3]] {
+            let plan = Plan::accepted(prefetch_on(), &small(), &records);
+            visit(plan.billed(SHARE * records.len() + 1, rate, number));
+        }
+    }
+}
+
+/// Shares around the length that they need, and of a few others, beside good and short answers, at good and bad rates.
+fn share_lengths(visit: &mut dyn FnMut(Plan)) {
+    for n in [0, 1, 2, MOST_RECORDS] {
+        let records: Vec<Record> = one_of_each().into_iter().cycle().take(n).collect();
+        let need = SHARE * n;
+        for length in (need.saturating_sub(9)..need + 10).chain([0, need / 2, ANSWER * n]) {
+            for (less, rate) in [(0, 307), (0, 0), (1, 307), (1, MILLION + 1)] {
+                visit(share_plan(&records, length, less.min(n), rate));
+            }
+        }
+    }
+}
+
+/// The answers are so many bytes too short. 307 is the good rate.
+fn share_plan(records: &[Record], length: usize, less: usize, rate: u32) -> Plan {
+    let mut plan = Plan::accepted(prefetch_on(), &small(), records);
+    plan.answers_len -= less;
+    plan.meant = Some(if less > 0 { 6 } else { 0 });
+    let short = less > 0 || length < SHARE * records.len();
+    plan.billed(length, rate, if short { 6 } else if rate == 307 { 0 } else { 8 })
+}
+
+/// Lists of 4,096 steps at several rates: a cycle at a time, past each cent, at any edges of the rounding, and the longest.
+fn rounding(visit: &mut dyn FnMut(Plan)) {
+    const RATES: [u32; 20] = [
+        1, 2, 3, 7, 10, 64, 307, 999, 15_625, 100_000, 250_000, 333_333, 333_334, 500_000, 500_001, 600_000, 999_998,
+        999_999, 1_000_000, 123_456,
+    ];
+    for rate in RATES {
+        let lists = [
+            vec![Record::new(IDLE, 0, 0, 1); MOST_RECORDS],
+            each_cent(rate),
+            bills::edges(&mut Rng::new(rate.into()), rate, MOST_RECORDS),
+            vec![Record::new(IDLE, 0, 0, u32::MAX); MOST_RECORDS],
+        ];
+        for records in lists {
+            let plan = Plan::accepted(Board::default(), &small(), &records);
+            visit(plan.billed(SHARE * MOST_RECORDS + rate as usize % 3, rate, 0));
+        }
+    }
+}
+
+/// The total goes to one cycle before the most that 1 cent pays for, there, and one past it; then 2 cents, and so on.
+fn each_cent(rate: u32) -> Vec<Record> {
+    let edges = (1..).map(|cents| cents * u64::from(MILLION) / u64::from(rate));
+    let totals = edges.flat_map(|edge| [edge - 1, edge, edge + 1]);
+    let mut total = 0;
+    let steps = totals.map(|next| {
+        let cycles = next.saturating_sub(total);
+        total += cycles;
+        Record::new(IDLE, 0, 0, cycles as u32)
+    });
+    steps.take(MOST_RECORDS).collect()
 }

@@ -1,5 +1,6 @@
-//! Times `bts_run` of libbts.a against document 01's run done by the Rust, on the same sheets and memories, and shows that
-//! the cost of a step doesn't grow. See README.md for what is timed and what the columns mean.
+//! Times `bts_run` of libbts.a against document 01's run done by the Rust, on the same sheets and memories, shows that the cost
+//! of a step doesn't grow, and times `bts_run_tariff` against `bts_run`. See README.md for what is timed and what the columns
+//! mean.
 
 // the Rust's own files; not all that they have is called here
 #[allow(dead_code, unused_imports)]
@@ -16,10 +17,12 @@ mod memories;
 mod race;
 mod rust_side;
 mod sheets;
+mod sides;
 mod timing;
 
-use race::{Table, SAME};
+use race::Table;
 use sheets::SORTS;
+use sides::{LIBRARY_AND_RUST, TARIFF_AND_RUN};
 use std::process::ExitCode;
 
 /// Rounds of the first table.
@@ -35,28 +38,32 @@ const ROUNDS_FOR_MANY: usize = 25;
 const ROUNDS_FOR_GROWTH: usize = 10;
 
 fn program(rounds: usize) -> Result<bool, String> {
-    let repeated = Table::time("first", SORTS.iter(), 1, rounds)?;
+    let judged = || SORTS.iter().filter(|sort| sort.judged);
+    let fewer = rounds.div_ceil(ROUNDS_FOR_MANY);
+    let repeated = Table::time("first", &LIBRARY_AND_RUST, SORTS.iter(), 1, rounds)?;
     repeated.print();
     println!();
-    let judged = SORTS.iter().filter(|sort| sort.judged);
-    let by_turns = Table::time("second", judged, MANY, rounds.div_ceil(ROUNDS_FOR_MANY))?;
+    let by_turns = Table::time("second", &LIBRARY_AND_RUST, judged(), MANY, fewer)?;
     by_turns.print();
     println!();
     let growing = growth::show(rounds.div_ceil(ROUNDS_FOR_GROWTH))?;
     println!();
-    let mut slower = Vec::new();
-    for table in [&repeated, &by_turns] {
-        println!("{}", table.line());
-        slower.extend(table.slower());
-    }
-    for what in &slower {
-        println!("SLOWER than the Rust, best over {SAME}: {what}");
-    }
+    let billed = Table::time("tariff first", &TARIFF_AND_RUN, judged(), 1, rounds)?;
+    billed.print();
+    println!();
+    let billed_by_turns = Table::time("tariff second", &TARIFF_AND_RUN, judged(), MANY, fewer)?;
+    billed_by_turns.print();
+    println!();
+    let tables = [repeated, by_turns, billed, billed_by_turns];
+    tables.iter().for_each(|table| println!("{}", table.line()));
+    let slower: Vec<String> = tables.iter().flat_map(Table::slower).collect();
+    slower.iter().for_each(|line| println!("{line}"));
     for name in &growing {
         println!("GROWS, ratio over {}: {name}", growth::MOST);
     }
     let good = slower.is_empty() && growing.is_empty();
     if good {
+        println!("a tariff costs at most {} of a run", TARIFF_AND_RUN.most);
         println!("no slower than the Rust on the four sorts in both tables, and no cost grows");
     }
     Ok(good)

@@ -1,4 +1,4 @@
-//! The memories that both sides get a copy of, and the library's side of a run.
+//! The memories that both sides get a copy of, and the library's runs over them.
 
 use crate::bus::region::{
     EWRAM_SIZE, IO_SIZE, IWRAM_SIZE, OAM_SIZE, PALETTE_SIZE, SRAM_WINDOW_SIZE, VRAM_SIZE,
@@ -40,6 +40,30 @@ impl Memories {
                 self.store.as_mut_ptr(), self.store.len(), self.bios.as_ptr(), self.bios.len(),
                 self.rom.as_ptr(), self.rom.len(), answers.as_mut_ptr(), answers.len(),
                 ewram, iwram, io, palette, vram, oam, sram,
+            )
+        }
+    }
+
+    /// The library's run under a tariff over these memories.
+    #[inline(never)]
+    pub fn run_tariff(
+        &mut self,
+        sheet: &[u8],
+        board: &mut [u8],
+        answers: &mut [u8],
+        shares: &mut [u8],
+        rate: u32,
+    ) -> Bill {
+        let [ewram, iwram, io, palette, vram, oam, sram] = self.lengths;
+        // as above
+        unsafe {
+            bts_run_tariff(
+                sheet.as_ptr(), sheet.len(), board.as_mut_ptr(), board.len(),
+                self.store.as_mut_ptr(), self.store.len(), self.bios.as_ptr(), self.bios.len(),
+                self.rom.as_ptr(), self.rom.len(), answers.as_mut_ptr(), answers.len(),
+                shares.as_mut_ptr(), shares.len(),
+                ewram, iwram, io, palette, vram, oam, sram,
+                rate,
             )
         }
     }

@@ -1,14 +1,13 @@
 //! One timing of a run, and what many of them come to.
 
-use crate::bytes::Report;
 use std::hint::black_box;
 use std::time::Instant;
 
 /// The time of a run in ns, and what it gave back.
-pub fn timed(run: impl FnOnce() -> Report) -> (f64, Report) {
+pub fn timed<T>(run: impl FnOnce() -> T) -> (f64, T) {
     let start = Instant::now();
-    let report = black_box(run());
-    (start.elapsed().as_nanos() as f64, report)
+    let given = black_box(run());
+    (start.elapsed().as_nanos() as f64, given)
 }
 
 /// Numbers in order.

@@ -1,0 +1,161 @@
+//! The sides whose times are compared, two at a time: the library and the Rust; a run of the library under a tariff and one
+//! without.
+
+use crate::bytes::*;
+use crate::memories::Memories;
+use crate::rust_side::Machine;
+use crate::sheets;
+use crate::timing::timed;
+
+/// The greatest ratio of best times at which the library isn't slower than the Rust: two builds of the same source differ by as
+/// much, from the places of their code and data alone.
+const SAME: f64 = 1.05;
+
+/// The most that a run under a tariff may cost of one without.
+const TARIFF_MOST: f64 = 1.15;
+
+/// Cents per million cycles.
+const RATE: u32 = 307;
+
+/// Fills answers and shares before a run, so that none is left there from the run before: an answer's last byte is 0, and so is a
+/// share's.
+const NO_ANSWER: u8 = 0xA5;
+
+// ---- a run ----
+
+/// What is lent to a run beside the memories. Both sides get the same buffers, so that neither has them at a better place or
+/// finds them warmer.
+pub struct Lent {
+    pub sheet: Vec<u8>,
+    pub board: Vec<u8>,
+    pub answers: Vec<u8>,
+    /// Empty where no side has a tariff.
+    pub shares: Vec<u8>,
+}
+
+/// What a run gave but for its memories.
+pub struct Given {
+    pub report: Report,
+    pub board: Vec<u8>,
+    pub answers: Vec<u8>,
+}
+
+impl Lent {
+    pub fn new(shares_len: usize) -> Lent {
+        Lent {
+            sheet: vec![0; HEADER + RECORD * sheets::RECORDS],
+            board: vec![0; BOARD],
+            answers: vec![0; ANSWER * sheets::RECORDS],
+            shares: vec![0; shares_len],
+        }
+    }
+
+    /// A side's run of a sheet from a fresh board: its time in ns a record, and what it gave. Only the run itself is timed.
+    pub fn time(&mut self, sheet: &[u8], side: &mut dyn Side) -> Result<(f64, Given), String> {
+        self.sheet.copy_from_slice(sheet);
+        self.board.fill(0);
+        self.answers.fill(NO_ANSWER);
+        self.shares.fill(NO_ANSWER);
+        let (ns, report) = timed(|| side.run(self));
+        side.check(self)?;
+        let given = Given { report, board: self.board.clone(), answers: self.answers.clone() };
+        Ok((ns / sheets::RECORDS as f64, given))
+    }
+}
+
+// ---- the sides ----
+
+/// Has memories of its own, which go on from run to run.
+pub trait Side {
+    fn run(&mut self, lent: &mut Lent) -> Report;
+
+    /// The seven memories of the store, in its order.
+    fn parts(&self) -> [&[u8]; 7];
+
+    /// Whether the last run left what only this side leaves as it should.
+    fn check(&self, _lent: &Lent) -> Result<(), String> {
+        Ok(())
+    }
+}
+
+impl Side for Memories {
+    fn run(&mut self, lent: &mut Lent) -> Report {
+        Memories::run(self, &lent.sheet, &mut lent.board, &mut lent.answers)
+    }
+
+    fn parts(&self) -> [&[u8]; 7] {
+        Memories::parts(self)
+    }
+}
+
+impl Side for Machine {
+    fn run(&mut self, lent: &mut Lent) -> Report {
+        Machine::run(self, &lent.sheet, &mut lent.board, &mut lent.answers)
+    }
+
+    fn parts(&self) -> [&[u8]; 7] {
+        Machine::parts(self)
+    }
+}
+
+/// The library under a tariff, and the bill of its last run.
+struct Billed {
+    memories: Memories,
+    bill: Bill,
+}
+
+impl Side for Billed {
+    fn run(&mut self, lent: &mut Lent) -> Report {
+        let Lent { sheet, board, answers, shares } = lent;
+        self.bill = self.memories.run_tariff(sheet, board, answers, shares, RATE);
+        Report { number: self.bill.number, index: self.bill.index, total: self.bill.total }
+    }
+
+    fn parts(&self) -> [&[u8]; 7] {
+        self.memories.parts()
+    }
+
+    /// The charge pays for the total and not a whole cent more, and the shares add up to it.
+    fn check(&self, lent: &Lent) -> Result<(), String> {
+        let Bill { total, charge, .. } = self.bill;
+        let (cost, paid) = (u128::from(total) * u128::from(RATE), u128::from(charge) * 1_000_000);
+        let shares = lent.shares.chunks_exact(SHARE).map(|share| u128::from(u64_at(share, 0)));
+        if cost <= paid && paid < cost + 1_000_000 && shares.sum::<u128>() == charge.into() {
+            return Ok(());
+        }
+        Err(format!("the shares don't add up to the charge, or it is wrong: {:?}", self.bill))
+    }
+}
+
+// ---- two sides ----
+
+/// Two sides of which the first may cost only so much of the second.
+pub struct Match {
+    pub names: [&'static str; 2],
+    /// The second, in a sentence.
+    pub other: &'static str,
+    /// The greatest ratio of best times.
+    pub most: f64,
+    pub shares_len: usize,
+    /// Each with a copy of the memories.
+    pub sides: fn(&Memories) -> [Box<dyn Side>; 2],
+}
+
+pub static LIBRARY_AND_RUST: Match = Match {
+    names: ["library", "Rust"],
+    other: "the Rust",
+    most: SAME,
+    shares_len: 0,
+    sides: |memories| [Box::new(memories.clone()), Box::new(Machine::new(memories))],
+};
+
+pub static TARIFF_AND_RUN: Match = Match {
+    names: ["tariff", "run"],
+    other: "bts_run",
+    most: TARIFF_MOST,
+    shares_len: SHARE * sheets::RECORDS,
+    sides: |memories| {
+        let bill = Bill { number: 0, index: 0, total: 0, charge: 0 };
+        [Box::new(Billed { memories: memories.clone(), bill }), Box::new(memories.clone())]
+    },
+};
