@@ -5,8 +5,8 @@
 #include <string.h>
 
 #include "bts.h"
+#include "number.h"
 
-#define NUMBER_MOST 0xFFFFFFFFu
 #define HALF_MOST 0xFFFFu
 
 static const struct form forms[] = {

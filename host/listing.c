@@ -8,6 +8,7 @@
 #include <string.h>
 
 #include "kinds.h"
+#include "number.h"
 #include "say.h"
 
 /* A mnemonic, three operands and `pc` are five; a sixth word is kept to be told as too much. */
@@ -63,33 +64,6 @@ static const char *shown(struct word word, char text[SHOWN_ROOM]) {
     return text;
 }
 
-/* ---- numbers */
-
-/* A digit's value, or -1. */
-static int digit(char c, int base) {
-    static const char digits[] = "0123456789abcdef0123456789ABCDEF";
-    const char *found = c != '\0' ? strchr(digits, c) : NULL;
-    int value = found != NULL ? (int)((found - digits) % 16) : base;
-    return value < base ? value : -1;
-}
-
-/* Decimal, or hexadecimal behind 0x; a leading 0 changes nothing. What is over 32 bits comes out as 2^32, however long it is. */
-static bool number(struct word word, uint64_t *value) {
-    const uint64_t over = (uint64_t)1 << 32;
-    bool hex = word.len > 2 && word.at[0] == '0' && (word.at[1] == 'x' || word.at[1] == 'X');
-    int base = hex ? 16 : 10;
-    *value = 0;
-    for (size_t i = hex ? 2 : 0; i < word.len; i++) {
-        int d = digit(word.at[i], base);
-        if (d < 0) {
-            return false;
-        }
-        *value = *value * (uint64_t)base + (uint64_t)d;
-        *value = *value < over ? *value : over;
-    }
-    return word.len > 0;
-}
-
 /* ---- operands */
 
 /* The next word as a number up to `most`; `name` is what it is called, and `of` the step. */
@@ -100,12 +74,12 @@ static bool take_number(struct reader *reader, const char *name, const char *of,
         return fault(reader, "%s has no %s: write %s %s", of, name, reader->form->name, reader->form->operands);
     }
     struct word word = reader->words[reader->next++];
-    if (number(word, &value)) {
+    if (read_number(word.at, word.len, &value)) {
         *out = (uint32_t)(value & 0xFFFFFFFF);
         return value <= most || fault(reader, "%s %s of %s is over %lu%s", name, shown(word, text), of, (unsigned long)most,
                                       most == 0xFFFFFFFF ? " (0xFFFFFFFF)" : "");
     }
-    if (word.len > 1 && word.at[0] == '-' && number((struct word){word.at + 1, word.len - 1}, &value)) {
+    if (word.len > 1 && word.at[0] == '-' && read_number(word.at + 1, word.len - 1, &value)) {
         return fault(reader, "%s %s of %s is negative", name, shown(word, text), of);
     }
     return fault(reader, "%s %s of %s is no number (decimal, or hexadecimal behind 0x)", name, shown(word, text), of);

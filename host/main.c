@@ -29,6 +29,7 @@ struct job {
     struct input inputs[INPUTS]; /* a board and a store that no file gives are made in their places */
     struct bytes sheet;          /* from a listing; it may have more records than a sheet holds */
     uint8_t *answers;
+    uint8_t *shares; /* NULL where nothing is billed */
     struct machine machine;
 };
 
@@ -61,14 +62,20 @@ static bool read_board(const char *path, struct input *input) {
     return input->bytes.at != NULL;
 }
 
-/* Whether the sheet can be written, if that is asked for. */
+/* Whether the listing is a sheet, if something is asked for that only a sheet has: its bytes, or a charge, which is rounded once
+ * and isn't the sum of what its pieces would be charged. */
 static bool fits_sheet(const struct options *options, const struct job *job) {
-    if (options->sheet_out == NULL || job->sheet.len <= BTS_MOST_SHEET) {
+    size_t steps = records_in(job->sheet.len);
+    if (steps <= BTS_MOST_RECORDS) {
         return true;
     }
-    complain("-o can't write %zu steps: a sheet holds at most %d", (job->sheet.len - BTS_HEADER_SIZE) / BTS_RECORD_SIZE,
-             BTS_MOST_RECORDS);
-    return false;
+    if (options->sheet_out != NULL) {
+        complain("-o can't write %zu steps: a sheet holds at most %d", steps, BTS_MOST_RECORDS);
+    }
+    if (options->rate.given) {
+        complain("--rate can't bill %zu steps: a charge is a sheet's, and a sheet holds at most %d", steps, BTS_MOST_RECORDS);
+    }
+    return options->sheet_out == NULL && !options->rate.given;
 }
 
 static bool read_inputs(const struct options *options, struct job *job) {
@@ -102,22 +109,32 @@ static struct bytes sheet_of(const struct options *options, const struct job *jo
     return options->sheet != NULL ? job->inputs[IN_STEPS].bytes : job->sheet;
 }
 
-static bts_report run(const struct options *options, struct job *job) {
+/* A run that isn't billed has the charge 0. */
+static bts_bill run(const struct options *options, struct job *job) {
     struct bytes sheet = sheet_of(options, job);
-    size_t room = answers_len(sheet.len);
-    if (options->sheet != NULL) {
-        return run_sheet(sheet.at, sheet.len, &job->machine, job->answers, room);
+    if (options->rate.given) {
+        return bill_sheet(sheet.at, sheet.len, &job->machine, job->answers, job->shares, options->rate.cents);
     }
-    return run_records(sheet.at + BTS_HEADER_SIZE, room / BTS_ANSWER_SIZE, &job->machine, job->answers);
+    bts_report report =
+        options->sheet != NULL
+            ? run_sheet(sheet.at, sheet.len, &job->machine, job->answers)
+            : run_records(sheet.at + BTS_HEADER_SIZE, records_in(sheet.len), &job->machine, job->answers);
+    return (bts_bill){report.number, report.index, report.total, 0};
+}
+
+/* Room for what the run writes for each record. Of no records it is no NULL either: NULL shares are those of a run not billed. */
+static bool make_room(size_t count, size_t size, uint8_t **at) {
+    *at = malloc(count > 0 ? count * size : 1);
+    if (*at == NULL) {
+        complain("out of memory");
+    }
+    return *at != NULL;
 }
 
 static bool make_answers(const struct options *options, struct job *job) {
-    size_t room = answers_len(sheet_of(options, job).len);
-    job->answers = malloc(room > 0 ? room : 1);
-    if (job->answers == NULL) {
-        complain("out of memory");
-    }
-    return job->answers != NULL;
+    size_t count = records_in(sheet_of(options, job).len);
+    return make_room(count, BTS_ANSWER_SIZE, &job->answers) &&
+           (!options->rate.given || make_room(count, BTS_SHARE_SIZE, &job->shares));
 }
 
 static void tell_too_long(const char *file, const char *memory, size_t len, size_t size) {
@@ -189,17 +206,25 @@ static int price(const struct options *options, struct job *job) {
         return FAILED;
     }
     trace_begin(&trace, &job->machine);
-    bts_report report = run(options, job);
+    bts_bill bill = run(options, job);
     const uint8_t *records = sheet_of(options, job).at + BTS_HEADER_SIZE;
-    if (report.number != BTS_OK) {
-        tell_refusal(records, report);
-        tell_cause(options, job, report.number);
+    if (bill.number != BTS_OK) {
+        tell_refusal(records, bill.number, bill.index);
+        tell_cause(options, job, bill.number);
         return REFUSED;
     }
     if (!write_files(options, job)) {
         return FAILED;
     }
-    struct account account = {records, job->answers, report.index, report.total, &trace};
+    struct account account = {
+        .records = records,
+        .answers = job->answers,
+        .shares = job->shares,
+        .count = bill.index,
+        .total = bill.total,
+        .charge = bill.charge,
+        .trace = &trace,
+    };
     int status = print(options, &account);
     if (status == DONE) {
         tell_short(&account, job->machine.lengths, options->table);
@@ -223,5 +248,6 @@ int main(int argc, char **argv) {
     }
     free(job.sheet.at);
     free(job.answers);
+    free(job.shares);
     return status;
 }

@@ -7,12 +7,16 @@
 
 #include "bts.h"
 #include "kinds.h"
+#include "number.h"
 #include "say.h"
 #include "store.h"
 #include "version.h"
 
-/* What an option sets: a flag, the name of a file, or that of a file for which `-` is standard input. */
-enum sets { FLAG, A_FILE, A_FILE_OR_STDIN };
+/* What an option sets: a flag, the name of a file, that of a file for which `-` is standard input, or a rate. */
+enum sets { FLAG, A_FILE, A_FILE_OR_STDIN, A_RATE };
+
+/* How a person is told what a rate is. */
+#define RATE_IS "cents per million cycles, a whole number from 1 to 1000000"
 
 /* The options, in the order in which the help text tells them. */
 static const struct option {
@@ -31,6 +35,7 @@ static const struct option {
     {"--full", NULL, FLAG, offsetof(struct options, full), "memories of the physical sizes, as they are without it"},
     {"--sheet", NULL, A_FILE_OR_STDIN, offsetof(struct options, sheet),
      "a sheet in bytes (- is standard input) instead of a listing"},
+    {"--rate", NULL, A_RATE, offsetof(struct options, rate), "bills the run at these " RATE_IS},
     {"-v", NULL, FLAG, offsetof(struct options, table), "a table for a person, instead of a line for each step and the total"},
     {"-o", NULL, A_FILE, offsetof(struct options, sheet_out), "writes the sheet that was run, of at most 4096 steps"},
     {"--board-out", NULL, A_FILE, offsetof(struct options, board_out), "writes the board after the run"},
@@ -75,6 +80,24 @@ static bool set_file(const struct option *option, const char *file, struct optio
     return true;
 }
 
+/* What is no number that the run can be given is told here; what is none of its rates, the run refuses. */
+static bool set_rate(const struct option *option, const char *text, struct options *options) {
+    struct rate *field = (struct rate *)(void *)((char *)options + option->field);
+    uint64_t value;
+    if (field->given) {
+        return wrong("stands twice", option->name);
+    }
+    if (text == NULL || text[0] == '\0') {
+        return wrong("has no value: it takes " RATE_IS, option->name);
+    }
+    if (!read_number(text, strlen(text), &value) || value > NUMBER_MOST) {
+        complain("%s takes " RATE_IS ", not %s; btsrun -h tells the options", option->name, text);
+        return false;
+    }
+    *field = (struct rate){true, (uint32_t)value};
+    return true;
+}
+
 /* Takes the option at argv[i] and gives back how many arguments it was; 0 if it is wrong. Behind the last argument is a NULL. The
  * value of a long option may stand behind `=` in the same argument. */
 static int take_option(char **argv, int i, struct options *options) {
@@ -84,8 +107,9 @@ static int take_option(char **argv, int i, struct options *options) {
         return wrong("is no option", argv[i]);
     }
     if (option->sets != FLAG) {
-        int taken = equals != NULL ? 1 : 2;
-        return set_file(option, equals != NULL ? equals + 1 : argv[i + 1], options) ? taken : 0;
+        const char *value = equals != NULL ? equals + 1 : argv[i + 1];
+        bool set = (option->sets == A_RATE ? set_rate : set_file)(option, value, options);
+        return !set ? 0 : equals != NULL ? 1 : 2;
     }
     if (equals != NULL) {
         return wrong("takes no value", option->name);
@@ -141,7 +165,7 @@ static void print_options(void) {
         const struct option *o = &option_list[i];
         char text[40];
         snprintf(text, sizeof text, "%s%s%s%s", o->name, o->also != NULL ? ", " : "", o->also != NULL ? o->also : "",
-                 o->sets != FLAG ? " FILE" : "");
+                 o->sets == FLAG ? "" : o->sets == A_RATE ? " CENTS" : " FILE");
         printf("  %-18s%s\n", text, o->says);
     }
 }
@@ -165,7 +189,7 @@ static void print_steps(void) {
 void print_help(void) {
     fputs("btsrun [OPTION].. [LISTING]     prices the steps of a listing (standard input if none is named, or -)\n\n", stdout);
     print_options();
-    fputs("\nA file's name may also stand behind =, as in --rom=FILE.\n", stdout);
+    fputs("\nA value may also stand behind =, as in --rom=FILE.\n", stdout);
     print_sizes();
     print_steps();
     fputs("\nFor each step a line gives these six, and behind them is the total of the cycles:\n\n"
@@ -178,6 +202,9 @@ void print_help(void) {
           "\n"
           "The table of -v has the step too, the sum of the cycles up to it, and the lines of docs/DIFFERENCES.md that touch "
           "it.\n"
+          "With --rate the charge stands behind the total: total * rate / 1000000 cents, rounded up to the cent and shown as "
+          "money\n(307 cents are 3.07). The table then has the share of each step, and the shares add up to the charge. A "
+          "charge is a\nsheet's, so at most 4096 steps can be billed.\n"
           "If a store landed short (fewer bytes in a memory than it had to give), a line on standard error counts such stores; "
           "with -v\nit is followed by each of them, with the reason.\n"
           "Nothing is written on an error. Exit status: 0 done; 1 refused by the run; 2 a bad line, option or file.\n",

@@ -3,6 +3,13 @@
 #define HOST_OPTIONS_H
 
 #include <stdbool.h>
+#include <stdint.h>
+
+/* A tariff's rate. One of 0 is given too, and is the run's to refuse. */
+struct rate {
+    bool given;
+    uint32_t cents; /* per million cycles */
+};
 
 /* A file that was not named is NULL. */
 struct options {
@@ -17,6 +24,7 @@ struct options {
     const char *board_out;
     const char *sram_out;
     const char *store_out;
+    struct rate rate;
     bool bench;   /* every memory as long as in document 01's program */
     bool full;    /* every memory at its physical size, which is so anyway */
     bool table;   /* the table for a person, instead of bench's lines */

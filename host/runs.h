@@ -19,16 +19,22 @@ struct trace;
 struct account {
     const uint8_t *records; /* BTS_RECORD_SIZE bytes each */
     const uint8_t *answers; /* BTS_ANSWER_SIZE bytes each */
+    const uint8_t *shares;  /* BTS_SHARE_SIZE bytes each; NULL where the run was not billed */
     size_t count;
     uint64_t total;
+    uint64_t charge;     /* in cents */
     struct trace *trace; /* what the first step started from */
 };
 
-/* The length of the answers to a sheet of `len` bytes, if it is one that is accepted. */
-size_t answers_len(size_t len);
+/* How many records a sheet of `len` bytes has, if it is one that is accepted. */
+size_t records_in(size_t len);
 
-/* Runs a sheet as it is. */
-bts_report run_sheet(const uint8_t *sheet, size_t len, struct machine *machine, uint8_t *answers, size_t room);
+/* Runs a sheet as it is; answers has room for as many as records_in gives. */
+bts_report run_sheet(const uint8_t *sheet, size_t len, struct machine *machine, uint8_t *answers);
+
+/* The same under a tariff; shares has room for as many too. There is no such run in pieces: the charge of each would be rounded
+ * up by itself, so that their sum might be too much. */
+bts_bill bill_sheet(const uint8_t *sheet, size_t len, struct machine *machine, uint8_t *answers, uint8_t *shares, uint32_t rate);
 
 /* Runs `count` records in pieces; answers has room for all of them. The report is as if a sheet had no limit: the index runs on
  * through the pieces, and the total is that of all. Behind a refusal, board and store are those of the pieces before it. */

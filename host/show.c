@@ -5,10 +5,20 @@
 
 #include "kinds.h"
 #include "marks.h"
+#include "money.h"
 #include "say.h"
 
+static bool is_billed(const struct account *account) {
+    return account->shares != NULL;
+}
+
 static void print_total(const struct account *account) {
+    char charge[MONEY_TEXT_ROOM];
     printf("total %llu\n", (unsigned long long)account->total);
+    if (is_billed(account)) {
+        money_text(account->charge, charge);
+        printf("charge %s\n", charge);
+    }
 }
 
 void print_lines(const struct account *account) {
@@ -20,7 +30,7 @@ void print_lines(const struct account *account) {
     print_total(account);
 }
 
-/* The marks stand behind the last column, so that a step without any ends where the sum does. */
+/* The marks stand behind the last column, so that a step without any ends where the sum or its share does. */
 static void print_row(size_t k, const uint8_t *record, bts_answer a, unsigned long long sum) {
     char text[STEP_TEXT_ROOM];
     step_text(record, text);
@@ -28,17 +38,36 @@ static void print_row(size_t k, const uint8_t *record, bts_answer a, unsigned lo
            (unsigned)a.hits, (unsigned)a.count, (unsigned)a.force, sum);
 }
 
+/* The largest share, of 2^32 - 1 cycles at a cent each, has 11 characters. */
+enum { SHARE_WIDTH = 11 };
+
+static void print_share(const struct account *account, size_t k) {
+    char share[MONEY_TEXT_ROOM];
+    if (is_billed(account)) {
+        money_text(bts_share_at(account->shares, k), share);
+        printf(" %*s", SHARE_WIDTH, share);
+    }
+}
+
+static void print_heading(const struct account *account) {
+    printf("%5s  %-29s %10s  %-10s %4s %5s %5s %14s", "index", "step", "cycles", "value", "hits", "count", "force", "sum");
+    if (is_billed(account)) {
+        printf(" %*s", SHARE_WIDTH, "share");
+    }
+    puts(" departs");
+}
+
 void print_table(const struct account *account) {
     unsigned long long sum = 0;
     struct met met = {{false}};
-    printf("%5s  %-29s %10s  %-10s %4s %5s %5s %14s %s\n", "index", "step", "cycles", "value", "hits", "count", "force", "sum",
-           "departs");
+    print_heading(account);
     for (size_t k = 0; k < account->count; k++) {
         const uint8_t *record = account->records + BTS_RECORD_SIZE * k;
         bts_answer a = bts_answer_at(account->answers, k);
         struct seen seen;
         sum += a.cycles;
         print_row(k, record, a, sum);
+        print_share(account, k);
         trace_step(account->trace, record, a, &seen);
         print_marks(&seen, &met);
         putchar('\n');
@@ -47,15 +76,15 @@ void print_table(const struct account *account) {
     print_met(&met, account->total);
 }
 
-void tell_refusal(const uint8_t *records, bts_report report) {
-    complain("refused %lu (%s) at record %lu: %s", (unsigned long)report.number, bts_refusal_name(report.number),
-             (unsigned long)report.index, bts_refusal_text(report.number));
-    if (report.number != BTS_FAULTY_RECORD) {
+void tell_refusal(const uint8_t *records, uint32_t number, uint32_t index) {
+    complain("refused %lu (%s) at record %lu: %s", (unsigned long)number, bts_refusal_name(number), (unsigned long)index,
+             bts_refusal_text(number));
+    if (number != BTS_FAULTY_RECORD) {
         return;
     }
-    fprintf(stderr, "btsrun: the bytes of record %lu:", (unsigned long)report.index);
+    fprintf(stderr, "btsrun: the bytes of record %lu:", (unsigned long)index);
     for (size_t i = 0; i < BTS_RECORD_SIZE; i++) {
-        fprintf(stderr, " %02X", (unsigned)records[BTS_RECORD_SIZE * (size_t)report.index + i]);
+        fprintf(stderr, " %02X", (unsigned)records[BTS_RECORD_SIZE * (size_t)index + i]);
     }
     fputc('\n', stderr);
 }

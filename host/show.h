@@ -4,14 +4,14 @@
 
 #include "runs.h"
 
-/* A line for each record and the total, exactly as `bench` writes them. */
+/* A line for each record and the total, exactly as `bench` writes them; where the run was billed, then the charge. */
 void print_lines(const struct account *account);
 
-/* A table that a person reads, with the steps, the running sum and the lines of docs/DIFFERENCES.md that touch each step; the
- * total; and what these lines say. */
+/* A table that a person reads, with the steps, the running sum, the shares where the run was billed, and the lines of
+ * docs/DIFFERENCES.md that touch each step; the total, and the charge; and what these lines say. */
 void print_table(const struct account *account);
 
 /* A refusal's number, name, record and meaning, on standard error; of a faulty record also its bytes. */
-void tell_refusal(const uint8_t *records, bts_report report);
+void tell_refusal(const uint8_t *records, uint32_t number, uint32_t index);
 
 #endif

@@ -1,39 +1,40 @@
 /* The Game Boy Advance bus-and-timing model for C: the run of a sheet, from libbts.a (make it with `rt staticlib bts`).
  *
  * A sheet is a list of steps as bytes. bts_run examines it, does its steps in order on a board (the machine's state outside its
- * memories) and over memories that the caller lends, and writes an answer for each step. host/ is a program over it.
+ * memories) and over memories that the caller lends, and writes an answer for each step. bts_run_tariff does the same and bills
+ * it: it also writes what each step's share of the charge is. host/ is a program over both.
  *
  * All numbers are little endian. "ROM window" is an address from 0x08000000 to 0x0DFFFFFF.
  *
  * What the caller sees to, for the time of the call:
  *   - every pointer is valid and not null, even where its length is 0 (bts_bytes and bts_room below take NULL for "no memory");
  *   - each length is the number of bytes at its pointer; no alignment is asked for;
- *   - no two of the six buffers overlap (one of length 0 overlaps nothing);
- *   - nobody else writes any of the six, and nobody else reads board, store and answers;
+ *   - no two of the buffers overlap, which are six, and seven with the shares (one of length 0 overlaps nothing);
+ *   - nobody else writes any of them, and nobody else reads board, store, answers and shares;
  *   - `store` is EWRAM, IWRAM, I/O, palette, VRAM, OAM and SRAM behind one another, in this order and with nothing between them;
  *     the seven lengths at the end are theirs. A length may be 0, odd, or short of the physical size.
- * These are the only rules: with them kept, a call ends and is safe whatever the buffers and the seven lengths hold, and what is
- * wrong with them is refused.
+ * These are the only rules: with them kept, a call ends and is safe whatever the buffers, the seven lengths and the rate hold,
+ * and what is wrong with them is refused.
  *
  * Who owns what: the caller, everything. The library allocates nothing, keeps no pointer and no state from call to call, reads
- * and writes no file, and never writes sheet, BIOS or ROM. Threads may call it at once on different boards, stores and answers;
- * they may share a sheet, a BIOS and a ROM.
+ * and writes no file, and never writes sheet, BIOS or ROM. Threads may call it at once on different boards, stores, answers and
+ * shares; they may share a sheet, a BIOS and a ROM.
  *
  * The library is machine code for Linux on x86-64 (System V, ELF, 64-bit pointers); elsewhere this header is an error. With
- * BTS_NO_LIBRARY defined, bts_run is not declared, and the rest (layouts, names, helpers) is plain C99 or C++11 for any machine:
- * enough to make sheets and to read boards and answers there. */
+ * BTS_NO_LIBRARY defined, neither function is declared, and the rest (layouts, names, helpers) is plain C99 or C++11 for any
+ * machine: enough to make sheets and to read boards, answers and shares there. */
 #ifndef BTS_H
 #define BTS_H
 
 #if !defined(BTS_NO_LIBRARY) && !(defined(__x86_64__) && defined(__linux__) && defined(__ELF__) && !defined(__ILP32__))
-#error "libbts.a is for Linux on x86-64 (System V, ELF, 64-bit pointers); BTS_NO_LIBRARY gives this header without bts_run"
+#error "libbts.a is for Linux on x86-64 (System V, ELF, 64-bit pointers); BTS_NO_LIBRARY gives this header without its functions"
 #endif
 
 /* The version of this header with its library: MAJOR rises when a caller must change, MINOR when something is added. (The version
  * of a sheet is BTS_VERSION.) */
 #define BTS_LIBRARY_MAJOR 1
-#define BTS_LIBRARY_MINOR 1
-#define BTS_LIBRARY_VERSION "1.1"
+#define BTS_LIBRARY_MINOR 2
+#define BTS_LIBRARY_VERSION "1.2"
 
 #include <stddef.h>
 #include <stdint.h>
@@ -46,7 +47,7 @@
 #define BTS_FUNCTION extern
 #endif
 
-/* ---- what the run gives back */
+/* ---- what a run gives back */
 
 /* number is BTS_OK or a refusal.
  *
@@ -62,6 +63,19 @@ typedef struct {
     uint64_t total;
 } bts_report;
 
+/* The same of a run under a tariff, of which all holds that is said above, and besides:
+ *
+ * BTS_OK: charge is in cents, and shares has a share for each record; its bytes behind them are untouched. What they are stands
+ * at the shares below.
+ *
+ * A refusal: charge is 0 like total, and every byte of shares is as it was. */
+typedef struct {
+    uint32_t number;
+    uint32_t index;
+    uint64_t total;
+    uint64_t charge;
+} bts_bill;
+
 enum {
     BTS_OK = 0,
     BTS_BAD_MARK = 1,
@@ -71,7 +85,8 @@ enum {
     BTS_UNSOUND_BOARD = 5,
     BTS_SHORT_ANSWERS = 6,
     BTS_FAULTY_RECORD = 7,
-    BTS_REFUSALS = 8 /* how many numbers there are, BTS_OK among them */
+    BTS_BAD_RATE = 8, /* by bts_run_tariff alone */
+    BTS_REFUSALS = 9  /* how many numbers there are, BTS_OK among them */
 };
 
 /* The name of each number and what it says. */
@@ -83,9 +98,10 @@ static inline const char *const *bts_refusal_row(uint32_t number) {
         {"BTS_BAD_SHAPE", "the sheet's byte 5 is not 0, it has over 4096 records, or its length is not 8 + 12 a record"},
         {"BTS_BAD_LENGTHS", "a memory is longer than its physical size, or the seven lengths don't add up to the store's"},
         {"BTS_UNSOUND_BOARD", "the board is not 72 bytes or not sound"},
-        {"BTS_SHORT_ANSWERS", "the answers are shorter than 12 bytes a record"},
+        {"BTS_SHORT_ANSWERS", "the answers are shorter than 12 bytes a record, or the shares of a tariff shorter than 8"},
         {"BTS_FAULTY_RECORD", "the record breaks the layout of a record or the table of kinds"},
-        {"unknown", "this number is none that bts_run gives"},
+        {"BTS_BAD_RATE", "the rate is 0 or over 1000000 cents per million cycles"},
+        {"unknown", "this number is none that the library gives"},
     };
     return rows[number < BTS_REFUSALS ? number : BTS_CAST(uint32_t, BTS_REFUSALS)];
 }
@@ -108,7 +124,8 @@ enum {
     BTS_MOST_RECORDS = 4096,
     BTS_MOST_SHEET = BTS_HEADER_SIZE + BTS_RECORD_SIZE * BTS_MOST_RECORDS, /* the longest sheet */
     BTS_BOARD_SIZE = 72,
-    BTS_ANSWER_SIZE = 12
+    BTS_ANSWER_SIZE = 12,
+    BTS_SHARE_SIZE = 8
 };
 
 /* The physical sizes: a memory may be shorter, not longer. */
@@ -200,7 +217,24 @@ typedef struct {
     uint8_t force;   /* 1: the next opcode fetch is nonsequential */
 } bts_answer;
 
-/* ---- the run */
+/* ---- the shares, which a run under a tariff gives besides
+ *
+ * Share: 8 bytes, in cents.
+ *
+ * The rate is in cents per million cycles, from 1 to BTS_MOST_RATE. The charge is total * rate / 1,000,000, rounded up to the
+ * cent. A step's share is the charge up to and with that step less the charge up to the step before. So the shares add up to the
+ * charge, and a step that costs cycles may have a share of 0: the cent that it falls into was begun by a step before it.
+ *
+ * A charge is a sheet's, and is rounded once. So don't add up the charges of sheets, and don't round what steps cost by
+ * themselves: either may come to more than the charge. What is billed as one must be run as one sheet.
+ *
+ * Two accepted runs under one rate have the same shares and the same charge, whatever the memories hold and however long they
+ * are, if they are alike: the sheets are the same but for the values of WRITE and LATCH, and the boards but for halfwords, latch
+ * and counters. */
+
+enum { BTS_MOST_RATE = 1000000 }; /* cents per million cycles */
+
+/* ---- the runs */
 
 #ifndef BTS_NO_LIBRARY
 BTS_FUNCTION
@@ -211,11 +245,23 @@ bts_report bts_run(const uint8_t *sheet, size_t sheet_len,
                    const uint8_t *rom, size_t rom_len,
                    uint8_t *answers, size_t answers_len,
                    size_t ewram, size_t iwram, size_t io, size_t palette, size_t vram, size_t oam, size_t sram);
+
+/* The same run, billed. */
+BTS_FUNCTION
+bts_bill bts_run_tariff(const uint8_t *sheet, size_t sheet_len,
+                        uint8_t *board, size_t board_len,
+                        uint8_t *store, size_t store_len,
+                        const uint8_t *bios, size_t bios_len,
+                        const uint8_t *rom, size_t rom_len,
+                        uint8_t *answers, size_t answers_len,
+                        uint8_t *shares, size_t shares_len,
+                        size_t ewram, size_t iwram, size_t io, size_t palette, size_t vram, size_t oam, size_t sram,
+                        uint32_t rate);
 #endif
 
 /* ---- helpers, which need no library */
 
-/* A pointer that bts_run may be given: NULL, which stands for "no memory" and goes with length 0, becomes a valid address. */
+/* A pointer that a run may be given: NULL, which stands for "no memory" and goes with length 0, becomes a valid address. */
 static inline const uint8_t *bts_bytes(const uint8_t *bytes) {
     static const uint8_t none[1] = {0};
     return bytes != NULL ? bytes : none;
@@ -274,6 +320,11 @@ static inline bts_answer bts_answer_at(const uint8_t *answers, size_t k) {
     answer.count = at[9];
     answer.force = at[10];
     return answer;
+}
+
+/* Share k, from 0, of an accepted run under a tariff: cents. */
+static inline uint64_t bts_share_at(const uint8_t *shares, size_t k) {
+    return bts_get64(shares + BTS_SHARE_SIZE * k);
 }
 
 /* The fields of a board of BTS_BOARD_SIZE bytes; what they mean stands at their places above. */

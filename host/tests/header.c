@@ -1,6 +1,6 @@
 /* include/bts.h by itself, as C and as C++: the README's small sheet made with the header's helpers, over no BIOS and no ROM; the
- * names of the refusals; the readers of a board; what lands of stores. The exit status is the number of the first thing that is
- * wrong. */
+ * same billed; the names of the refusals; the readers of a board; what lands of stores. The exit status is the number of the
+ * first thing that is wrong. */
 #include "bts.h"
 
 #include <string.h>
@@ -50,6 +50,39 @@ static int accepted_run(void) {
     return answers[2 * BTS_ANSWER_SIZE] == 0xEE && bts_board_waitcnt(board) == 0x4000 ? 0 : 5;
 }
 
+static bts_bill bill(uint32_t rate, uint8_t *shares, size_t shares_len) {
+    uint8_t sheet[sizeof by_hand], board[BTS_BOARD_SIZE] = {0}, store[256] = {0}, answers[2 * BTS_ANSWER_SIZE];
+    make_sheet(sheet);
+    return bts_run_tariff(sheet, sizeof sheet, board, sizeof board, store, sizeof store, bts_bytes(NULL), 0, bts_bytes(NULL), 0,
+                          answers, sizeof answers, shares, shares_len, 256, 0, 0, 0, 0, 0, 0, rate);
+}
+
+/* The 3 cycles of the second step at half a cent each, rounded up; then a rate that is none, and no room for the shares. */
+static int billed_run(void) {
+    uint8_t shares[2 * BTS_SHARE_SIZE + 1];
+    memset(shares, 0xEE, sizeof shares);
+    bts_bill none = bill(BTS_MOST_RATE + 1, shares, sizeof shares), no_room = bill(500000, bts_room(NULL), 0);
+    if (none.number != BTS_BAD_RATE || none.index != 0 || none.total != 0 || none.charge != 0 || shares[0] != 0xEE) {
+        return 13;
+    }
+    if (no_room.number != BTS_SHORT_ANSWERS || no_room.index != 0 || no_room.total != 0 || no_room.charge != 0) {
+        return 14;
+    }
+    bts_bill some = bill(500000, shares, sizeof shares);
+    if (some.number != BTS_OK || some.index != 2 || some.total != 3 || some.charge != 2) {
+        return 15;
+    }
+    return bts_share_at(shares, 0) == 0 && bts_share_at(shares, 1) == 2 && shares[2 * BTS_SHARE_SIZE] == 0xEE ? 0 : 16;
+}
+
+/* As the library lays it out. */
+static int layout_of_bill(void) {
+    if (offsetof(bts_bill, number) != 0 || offsetof(bts_bill, index) != 4) {
+        return 17;
+    }
+    return offsetof(bts_bill, total) == 8 && offsetof(bts_bill, charge) == 16 && sizeof(bts_bill) == 24 ? 0 : 18;
+}
+
 /* Stores to EWRAM, a palette of 3 bytes, OAM and an SRAM: their hits are the bytes that landed. */
 static int stores(void) {
     static const uint32_t writes[][3] = {
@@ -76,10 +109,13 @@ static int names(void) {
         return 6;
     }
     if (!NAMED(BTS_OK) || !NAMED(BTS_BAD_MARK) || !NAMED(BTS_BAD_VERSION) || !NAMED(BTS_BAD_SHAPE) || !NAMED(BTS_BAD_LENGTHS) ||
-        !NAMED(BTS_UNSOUND_BOARD) || !NAMED(BTS_SHORT_ANSWERS) || !NAMED(BTS_FAULTY_RECORD)) {
+        !NAMED(BTS_UNSOUND_BOARD) || !NAMED(BTS_SHORT_ANSWERS) || !NAMED(BTS_FAULTY_RECORD) || !NAMED(BTS_BAD_RATE)) {
         return 7;
     }
-    return strcmp(bts_refusal_name(8), "unknown") == 0 && bts_refusal_text(0xFFFFFFFF) == bts_refusal_text(8) ? 0 : 8;
+    return BTS_REFUSALS == 9 && strcmp(bts_refusal_name(9), "unknown") == 0 &&
+                   bts_refusal_text(0xFFFFFFFF) == bts_refusal_text(9)
+               ? 0
+               : 8;
 }
 
 /* Byte i of the board is i + 0x80, so that each field has its own value and no sign gets in. */
@@ -103,7 +139,7 @@ static int readers(void) {
 }
 
 int main(void) {
-    int results[] = {refused_run(), accepted_run(), names(), readers(), stores()};
+    int results[] = {refused_run(), accepted_run(), names(), readers(), stores(), billed_run(), layout_of_bill()};
     int first = 0;
     for (size_t i = 0; i < sizeof results / sizeof results[0]; i++) {
         first = first != 0 ? first : results[i];

@@ -39,7 +39,8 @@ package_checks() {
     check "the version" is "$(pkg-config --modversion bts)" "$(header_version)"
     readme_blocks c >"$work/package.c"
     check "it builds" ${CC:-cc} $(pkg-config --cflags bts) "$work/package.c" $(pkg-config --libs bts) -o "$work/package"
-    check "it runs" is "$("$work/package")" "0 2 3"
+    check "it runs" is "$("$work/package")" "0 2 3
+0 2 3 2"
     unset PKG_CONFIG_SYSROOT_DIR PKG_CONFIG_PATH
 }
 
