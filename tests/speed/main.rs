@@ -63,8 +63,7 @@ fn program(rounds: usize) -> Result<bool, String> {
     }
     let good = slower.is_empty() && growing.is_empty();
     if good {
-        println!("a tariff costs at most {} of a run", TARIFF_AND_RUN.most);
-        println!("no slower than the Rust on the four sorts in both tables, and no cost grows");
+        println!("no slower than the Rust on the four sorts in both tables, no cost grows, and a tariff isn't too dear");
     }
     Ok(good)
 }

@@ -177,10 +177,10 @@ impl Table {
     /// The sorts on which the first side is slower than it may be, a line for each.
     pub fn slower(&self) -> Vec<String> {
         let Match { other, most, .. } = self.between;
-        let slow = self.judged().filter(|race| race.best_ratio() > *most);
+        let slow = self.judged().filter(|race| race.best_ratio() > most(race.sort));
         let line = |race: &Race| {
-            let (sort, ratio, table) = (race.sort.name, race.best_ratio(), self.name);
-            format!("SLOWER than {other}, best over {most}: {sort}, {ratio:.3} in the table \"{table}\"")
+            let (sort, ratio, limit, table) = (race.sort.name, race.best_ratio(), most(race.sort), self.name);
+            format!("SLOWER than {other}, best over {limit}: {sort}, {ratio:.3} in the table \"{table}\"")
         };
         slow.map(line).collect()
     }
