@@ -32,6 +32,10 @@ module _ (i : Lent) (o : Outcome) (call : o ≡ outcome i) where
   pub table : Table i o
   table = rw call (refusal.table i)
 
+  -- and no other number
+  pub refusals : o .number ≤ 7
+  refusals = rw call (refusal.seven-refusals i)
+
   -- number 0 exactly when no condition of the table holds
   pub accepts : Exactly (o .number ≡ 0) (Acceptable i)
   accepts = rw call (refusal.zero-exactly i)
@@ -83,6 +87,9 @@ module _ (t : Tariffed) (b : Billed) (call : b ≡ bill t) where
   -- demand 1: each number exactly when its row of the tariff's table holds and no earlier one does
   pub tariff-table : TariffTable t b
   tariff-table = rw call (billed.tariff-table t)
+
+  pub tariff-refusals : b .run .number ≤ 8
+  tariff-refusals = rw call (billed.eight-refusals t)
 
   -- number 0 exactly when the run's conditions hold, there is room for the shares and the rate is fair
   pub tariff-accepts : Exactly (b .run .number ≡ 0) (TariffAcceptable t)

@@ -17,14 +17,12 @@ use Rattle.model.specs.Laws.Fits.{answers-count, total-fits}
 use Rattle.model.specs.Laws.Demand3.{cycles-there}
 use Rattle.model.specs.Laws.Billed.{TariffAcceptable, tariff-accepted}
 use Rattle.step.specs.Begun.{stateFrom}
-use Rattle.examine.specs.Lent.{lending}
 use Rattle.examine.specs.Verdicts.{ready}
 use Rattle.tariff.specs.Shares.{Payable, Billable}
 use Rattle.bts.specs.Beginning.{Beginning, Ends, answers-size}
 use Rattle.model.specs.declared.Answer.{Answer}
 use Rattle.model.specs.declared.Clock.{Clock}
 use Rattle.model.specs.declared.Contents.{Contents}
-use Rattle.model.specs.declared.Lengths.{Lengths}
 use Rattle.model.specs.declared.Refusal.{Refusal}
 use Rattle.model.specs.declared.Verdict.the-variants.{Accepted, Refused}
 use Rattle.bts.specs.declared.Report.{Report}

@@ -91,6 +91,17 @@ pub fn examine_answers(n: usize, answers: usize) -> Verdict
     Verdict::Accepted
 }
 
+// Room for the answers of n records, and for `each` bytes a record in a second buffer.
+pub fn examine_room(n: usize, answers: usize, each: usize, second: usize) -> Verdict
+    requires { ⌜ RoomAsked n each ⌝ }
+    ensures { λ r. ⌜ r ≡ def.firstRow (def.roomRows n answers each second) ⌝ }
+{
+    if second < each * n {
+        return Verdict::Refused(Refusal::ShortAnswers);
+    }
+    examine_answers(n, answers)
+}
+
 // The records of a sheet that has its shape.
 pub fn examine_records(sheet: &[u8]) -> Verdict
     requires { ⌜ Shaped (now sheet) ⌝ }
@@ -102,17 +113,6 @@ pub fn examine_records(sheet: &[u8]) -> Verdict
         return Verdict::Refused(Refusal::FaultyRecord(k));
     }
     Verdict::Accepted
-}
-
-// Room for the answers of n records, and for `each` bytes a record in a second buffer.
-pub fn examine_room(n: usize, answers: usize, each: usize, second: usize) -> Verdict
-    requires { ⌜ RoomAsked n each ⌝ }
-    ensures { λ r. ⌜ r ≡ def.firstRow (def.roomRows n answers each second) ⌝ }
-{
-    if second < each * n {
-        return Verdict::Refused(Refusal::ShortAnswers);
-    }
-    examine_answers(n, answers)
 }
 
 // The rate of a tariff.
@@ -213,7 +213,7 @@ pub fn examine_tariff(
     or_else(records, fair)
 }
 
-// Document 01's number of a refusal.
+// The documents' number of a refusal.
 pub fn refusal_number(r: Refusal) -> u32
     ensures { λ n. ⌜ n ≡ def.refusalNumber r ⌝ }
 {

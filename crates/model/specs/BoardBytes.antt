@@ -1,8 +1,8 @@
 -- A board as 72 bytes, when such bytes are sound, and an answer as 12.
 -- From document 01, "Records (added)": "Board" is its word for the state that a run starts from and leaves.
 use mathlib.Core.Bool.{Bool, false, not, _&&_, _||_}
-use mathlib.Core.List.{List, [], _∷_, _++_, map}
-use Prim.Native.Nat.{ℕ, zero, suc, _+_, _-_, _*_, _/_, _%_}
+use mathlib.Core.List.{List, [], _∷_, _++_}
+use Prim.Native.Nat.{ℕ, _+_, _-_, _*_, _/_, _%_}
 use lib.ListN.{length, replicate}
 use lib.Dec.{eqb, leb}
 use Rattle.model.specs.Base.{if_then_else_, bit, same, byteAt, number, numbersFrom, Field, field, encoded, numbersBytes}

@@ -1,6 +1,5 @@
 -- `bill_accepted` meets its contract: the run accepts what the tariff does, and its answers and its total, of so many cycles at
 -- most, give the shares and the charge. Assumes nothing.
-use mathlib.Core.Path.{_≡_, refl, sym, _∙_}
 use native.Mathlib.Omega.{arith}
 use borrow.Author.Needs.{needs}
 use Rattle.model.specs.Outcome.{LentBytes}

@@ -2,7 +2,6 @@
 use mathlib.Core.Path.{_∙_}
 use native.Mathlib.Omega.{arith}
 use native.Mathlib.Nat.{mul-le-mul}
-use Rattle.model.specs.Sheet.{maxRecords}
 use Rattle.examine.specs.Verdicts.{too-narrow, wide-enough}
 use Rattle.examine.proofs.examine_room.Statement.{statement}
 use Rattle.examine.proofs.examine_room.Tie as tie

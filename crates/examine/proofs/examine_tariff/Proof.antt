@@ -5,7 +5,7 @@ use Prim.Native.Nat.{ℕ}
 use lib.ListN.{length}
 use native.Mathlib.Omega.{arith}
 use borrow.Author.Needs.{needs}
-use Rattle.model.specs.Outcome.{Lent, firstRow, lentRows, roomRows, recordsRows}
+use Rattle.model.specs.Outcome.{firstRow, lentRows, roomRows, recordsRows}
 use Rattle.model.specs.Tariff.{shareLength, Tariffed, sharesRows, rateRows, tariffVerdict}
 use Rattle.model.specs.Laws.Rows.{orElse, first-append}
 use Rattle.examine.specs.Lent.{lending, tariffing}

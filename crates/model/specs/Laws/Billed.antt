@@ -10,10 +10,10 @@ use native.Mathlib.Nat.{add-zero}
 use lib.ListN.{length, getD, take, drop, length-map, List·getD-append}
 use lib.Seq.{drop-at}
 use lib.Dec.{eqb, ltb, lit<}
-use borrow.Author.Tests.{eqb-true, ltb-true, ltb-false, le-ltb, lt-ltb, eq-eqb, ne-eqb}
+use borrow.Author.Tests.{ltb-true, ltb-false, le-ltb, ne-eqb}
 use Rattle.model.specs.Base.{sum, byteAt, number, numbersFrom, numbersBytes}
 use Rattle.model.specs.Step.{cyclesOf, total}
-use Rattle.model.specs.Sheet.{maxRecords, recordCount}
+use Rattle.model.specs.Sheet.{recordCount}
 use Rattle.model.specs.BoardBytes.{answerLength}
 use Rattle.model.specs.Outcome.{LentBytes, Outcome, Row, row, byRow, firstRow, lentRows, answersRows, faultIndex}
 use Rattle.model.specs.Outcome.{recordsRows, rows, ran, verdict, verdictNumber, outcomeBy, outcome}
@@ -24,7 +24,7 @@ use Rattle.model.specs.Tariff.{shareAt, cyclesAt, cyclesTo, Bills, SameB
 use Rattle.model.specs.Laws.Choice.{by-test, never, eqb-ne, or-false, or-false-left, or-false-right}
 use Rattle.model.specs.Laws.Rows.{Exactly, Decides, NoneHolds, Rising, numberAt, orElse, row-passes, first-append}
 use Rattle.model.specs.Laws.Rows.{none-accepts, none-of-both, next-decides, decides-refusal, decided, undecided}
-use Rattle.model.specs.Laws.Rows.{zero-accepted}
+use Rattle.model.specs.Laws.Rows.{at-most, zero-accepted}
 use Rattle.model.specs.Laws.Refusal.{FirstFault, first-fault, by-number, Index, zero-index, Acceptable}
 use Rattle.model.specs.Laws.Refusal.{none-acceptable, acceptable-none, Untouched, by-refusal}
 use Rattle.model.specs.Laws.Fits.{answers-count, total-fits}
@@ -32,7 +32,6 @@ use Rattle.model.specs.Laws.Codec.{numbers-length, numbers-back, numbers
 use Rattle.model.specs.Laws.Demand3.{cycles-there, alike-count, same-cycles, demand3}
 use Rattle.model.specs.Laws.Charge.{rounded-up, cost-fits, adds-at-most, adds-at-least}
 use Rattle.model.specs.Laws.Charge.{shares-length, shares-add-up, share-is}
-use Rattle.model.specs.declared.Refusal.{Refusal}
 use Rattle.model.specs.declared.Refusal.the-variants.{ShortAnswers, FaultyRecord, BadRate}
 use Rattle.model.specs.declared.Verdict.{Verdict}
 use Rattle.model.specs.declared.Verdict.the-variants.{Accepted, Refused}
@@ -59,6 +58,15 @@ tariff-table t =
           (λ x. e .0 (sym (number-is t) ∙ x), λ d. number-is t ∙ e .1 d);
       none = (λ x. (undecided (tariffRows t)) .0 (sym (number-is t) ∙ x), λ d. number-is t ∙ (undecided (tariffRows t)) .1 d);
     }
+
+-- a run under a tariff makes none but these eight
+pub eight-refusals : (t : Tariffed) → (bill t) .run .number ≤ 8
+eight-refusals t =
+    rw (number-is t)
+    (at-most 8 (tariffRows t) (
+      omega arith,
+      (omega arith, (omega arith, (omega arith, (omega arith, (omega arith, (omega arith, (omega arith, tt))))))),
+    ))
 
 -- ---- what is asked besides the run's conditions
 
@@ -201,7 +209,8 @@ tariff-index t =
     record {
       refused = zero-index (t .run) (tariffVerdict t);
       faulty-record = λ h. fault ((tariff-table t) .row 6 (lit< tt) .0 h);
-      accepted = λ h. ap (λ (v : Verdict). (outcomeBy (t .run) v) .index) (zero-accepted (tariffVerdict t) (sym (number-is t) ∙ h));
+      accepted = λ h.
+          ap (λ (v : Verdict). (outcomeBy (t .run) v) .index) (zero-accepted (tariffVerdict t) (sym (number-is t) ∙ h));
     }
   where
     fault : Decides (tariffRows t) 6 → FirstFault (t .run .sheet) ((outcomeBy (t .run) (firstRow (tariffRows t))) .index)

@@ -1,10 +1,10 @@
 -- The charge and the shares, of plain numbers: the charge is rounded up, a share lies between what its cycles cost alone rounded
 -- down and rounded up, and shares add up to the charge.
-use mathlib.Core.Path.{_≡_, refl, sym, ap, ap₂, _∙_}
-use mathlib.Core.List.{List, [], _∷_, _++_}
+use mathlib.Core.Path.{_≡_, refl, ap}
+use mathlib.Core.List.{List, [], _∷_}
 use Prim.Native.Nat.{ℕ, zero, suc, _+_, _-_, _*_, _≤_, _<_, _^_}
 use native.Mathlib.Omega.{arith}
-use native.Mathlib.Nat.{zero-add, add-zero, add-assoc, add-mul, mul-le-mul, mul-le-mul-right}
+use native.Mathlib.Nat.{zero-add, add-zero, add-assoc, add-mul, mul-le-mul}
 use lib.ListN.{length, getD, take}
 use Rattle.model.specs.Base.{sum}
 use Rattle.model.specs.Tariff.{rateCycles, maxRate, cost, charge, chargeDown, sharesAfter, shares}
@@ -21,9 +21,9 @@ unfolding charge
 rounded-up rate cycles = record { pays = omega arith; just = omega arith }
 
 -- the same rounded down
-pub record Down (rate cycles cents : ℕ) : Type 0 where
-  pub paid : cents * rateCycles ≤ cycles * rate
-  pub nearly : cycles * rate < cents * rateCycles + rateCycles
+record Down (rate cycles cents : ℕ) : Type 0 where
+  paid : cents * rateCycles ≤ cycles * rate
+  nearly : cycles * rate < cents * rateCycles + rateCycles
 
 rounded-down : (rate cycles : ℕ) → Down rate cycles (chargeDown rate cycles)
 unfolding chargeDown

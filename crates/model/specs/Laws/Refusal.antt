@@ -17,7 +17,7 @@ use Rattle.model.specs.Outcome.{verdictNumber, refusalIndex, outcomeBy, 
 use Rattle.model.specs.Laws.Choice.{choose, by-test}
 use Rattle.model.specs.Laws.Limits.{records-length}
 use Rattle.model.specs.Laws.Rows.{Exactly, Decides, NoneHolds, Rising, decided, undecided}
-use Rattle.model.specs.Laws.Rows.{decides-refusal, none-accepts, zero-accepted}
+use Rattle.model.specs.Laws.Rows.{at-most, decides-refusal, none-accepts, zero-accepted}
 use Rattle.model.specs.declared.Refusal.{Refusal}
 use Rattle.model.specs.declared.Refusal.the-variants.{BadMark, BadVersion, BadShape, BadLengths}
 use Rattle.model.specs.declared.Refusal.the-variants.{UnsoundBoard, ShortAnswers, FaultyRecord, BadRate}
@@ -147,6 +147,14 @@ table i =
       records = exactly-row i 6 7 (lit< tt) (decided 0 (rows i) (rising i) 6 (lit< tt));
       none = (λ x. (undecided (rows i)) .0 (sym (number-is i) ∙ x), λ d. number-is i ∙ (undecided (rows i)) .1 d);
     }
+
+-- a run makes none but these seven
+pub seven-refusals : (i : Lent) → (outcome i) .number ≤ 7
+unfolding verdict
+seven-refusals i =
+    rw (number-is i)
+    (at-most 7 (rows i)
+    (omega arith, (omega arith, (omega arith, (omega arith, (omega arith, (omega arith, (omega arith, tt))))))))
 
 -- ---- the index
 

@@ -98,6 +98,19 @@ next-decides (x ∷ xs) r ys =
 
 -- ---- numbers
 
+-- no number of the table is above n
+abbrev pub UpTo : ℕ → List Row → Type 0
+UpTo n [] = Unit {0}
+UpTo n (r ∷ rs) = (refusalNumber (r .refusal) ≤ n) × UpTo n rs
+
+-- so no verdict's is: a refusal is one of the table's
+pub at-most : (n : ℕ) (rs : List Row) → UpTo n rs → verdictNumber (firstRow rs) ≤ n
+at-most n [] h = omega arith
+at-most n (r ∷ rs) h =
+    by-test (r .holds)
+    (λ e. rw (row-holds r (firstRow rs) e) (h .0))
+    (λ e. rw (row-passes r (firstRow rs) e) (at-most n rs (h .1)))
+
 -- a verdict of a table whose numbers rise from above n is none, or has one above n
 pub above : (n : ℕ) (rs : List Row) → Rising n rs → verdictNumber (firstRow rs) ≢ 0 → n < verdictNumber (firstRow rs)
 above n [] h z = absurd (z refl)

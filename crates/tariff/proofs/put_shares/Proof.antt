@@ -1,11 +1,10 @@
 -- `put_shares` meets its contract: each turn writes the share of one step more, from the last to the first. The measure is the
 -- steps left. Assumes nothing.
 use mathlib.Core.Path.{_≡_, refl, _∙_}
-use Prim.Native.Nat.{ℕ, _+_, _-_, _*_, _≤_}
+use Prim.Native.Nat.{_+_, _-_, _*_, _≤_}
 use native.Mathlib.Omega.{arith}
 use native.Mathlib.Nat.{mul-le-mul}
 use lib.ListN.{length}
-use borrow.Author.Needs.{needs}
 use borrow.Rule.Slice.PartMut.{mid-len}
 use Rattle.tariff.specs.Shares.{Going, begin, same-room, part-left, grows, turn, finish}
 use Rattle.tariff.proofs.put_shares.Statement.{statement}
