@@ -111,9 +111,9 @@ shareAt b k = number shareLength (b .shares) (shareLength * k)
 abbrev pub cyclesAt : Billed → ℕ → ℕ
 cyclesAt b k = number 4 (b .run .answers) (answerStart k + 4)
 
--- the cycles of the first k steps as they stand in the answers
-abbrev pub cyclesTo : Billed → ℕ → ℕ
-cyclesTo b k = sum (cyclesFrom (b .run .answers) 0 k)
+-- the cycles of the first k steps as they stand in answers
+abbrev pub cyclesTo : List ℕ → ℕ → ℕ
+cyclesTo answers k = sum (cyclesFrom answers 0 k)
 
 -- what every accepted run under a tariff has by itself
 pub record Bills (t : Tariffed) (b : Billed) : Type 0 where
@@ -124,7 +124,7 @@ pub record Bills (t : Tariffed) (b : Billed) : Type 0 where
   pub small : LentBytes (t .run) → cost (t .rate) (b .run .total) < 2 ^ 64
   -- each share is the charge up to and with its step less the charge up to the step before
   pub share : LentBytes (t .run) → (k : ℕ) → k < recordCount (t .run .sheet)
-      → shareAt b k ≡ charge (t .rate) (cyclesTo b (suc k)) - charge (t .rate) (cyclesTo b k)
+      → shareAt b k ≡ charge (t .rate) (cyclesTo (b .run .answers) (suc k)) - charge (t .rate) (cyclesTo (b .run .answers) k)
   -- at most what the step's cycles cost alone, rounded up, and at least that rounded down
   pub most : LentBytes (t .run) → (k : ℕ) → k < recordCount (t .run .sheet) → shareAt b k ≤ charge (t .rate) (cyclesAt b k)
   pub least : LentBytes (t .run) → (k : ℕ) → k < recordCount (t .run .sheet) → chargeDown (t .rate) (cyclesAt b k) ≤ shareAt b k

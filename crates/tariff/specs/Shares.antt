@@ -1,19 +1,19 @@
 -- What the tariff's functions ask, and the shares of the steps from one on, which a loop writes from the last step to the first.
 use mathlib.Core.Path.{_≡_, refl, sym, ap, ap₂, _∙_}
 use mathlib.Core.List.{List, _∷_, _++_, append-assoc}
-use Prim.Native.Nat.{ℕ, zero, suc, _+_, _-_, _*_, _/_, _^_, _≤_, _<_}
+use Prim.Native.Nat.{ℕ, suc, _+_, _-_, _*_, _/_, _^_, _≤_, _<_}
 use native.Mathlib.Omega.{arith}
-use native.Mathlib.Nat.{zero-add, add-mul, sub-zero, sub-self}
+use native.Mathlib.Nat.{add-mul, sub-zero, sub-self}
 use lib.ListN.{length, take, drop, take-append-drop, length-append, length-drop}
 use lib.Seq.{length-take-le, take-append-le, take-take, drop-at, drop-drop}
 use borrow.Rule.Slice.PartMut.{putMid}
-use Rattle.model.specs.Base.{sum, bytes, number, numbersBytes}
+use Rattle.model.specs.Base.{bytes, number, numbersBytes}
 use Rattle.model.specs.Sheet.{maxRecords}
 use Rattle.model.specs.BoardBytes.{answerLength}
 use Rattle.model.specs.Alike.{answerStart, cyclesFrom}
-use Rattle.model.specs.Tariff.{rateCycles, maxRate, cost, charge, sharesAfter, shareLength, sharesIn}
+use Rattle.model.specs.Tariff.{rateCycles, maxRate, cost, charge, sharesAfter, shareLength, sharesIn, cyclesTo}
 use Rattle.model.specs.Laws.Codec.{numbers-length}
-use Rattle.model.specs.Laws.Charge.{cost-fits, charge-grows, shares-length}
+use Rattle.model.specs.Laws.Charge.{cycles-length, cycles-further, cost-fits, charge-grows, shares-length}
 
 -- ---- what is asked
 
@@ -27,34 +27,11 @@ pub record Billable (n total rate : ℕ) (answers lent : List ℕ) : Type 0 wher
   pub few : n ≤ maxRecords
   pub answered : answerLength * n ≤ length answers
   pub room : shareLength * n ≤ length lent
-  pub summed : total ≡ sum (cyclesFrom answers 0 n)
+  pub summed : total ≡ cyclesTo answers n
   pub payable : Payable rate total
 
 pub payable-fits : {rate cycles : ℕ} → Payable rate cycles → cost rate cycles < 2 ^ 64
 payable-fits {rate} {cycles} p = cost-fits rate cycles (p .most) (omega (arith, p .few))
-
--- ---- the cycles of the steps up to one
-
--- those of the first k
-abbrev pub upTo : List ℕ → ℕ → ℕ
-upTo answers k = sum (cyclesFrom answers 0 k)
-
-sum-further : (b : List ℕ) (j k : ℕ)
-    → sum (cyclesFrom b j (suc k)) ≡ sum (cyclesFrom b j k) + number 4 b (answerStart (j + k) + 4)
-sum-further b j zero = omega (arith, ap (λ (i : ℕ). number 4 b (answerStart i + 4)) (let e : j + 0 ≡ j = omega arith in e))
-sum-further b j (suc k) =
-    omega (
-      arith,
-      sum-further b (suc j) k,
-      ap (λ (i : ℕ). number 4 b (answerStart i + 4)) (let e : suc j + k ≡ j + suc k = omega arith in e),
-    )
-
-up-further : (b : List ℕ) (k : ℕ) → upTo b (suc k) ≡ upTo b k + number 4 b (answerStart k + 4)
-up-further b k = sum-further b 0 k ∙ ap (λ (i : ℕ). upTo b k + number 4 b (answerStart i + 4)) (zero-add k)
-
-cycles-length : (b : List ℕ) (j n : ℕ) → length (cyclesFrom b j n) ≡ n
-cycles-length b j zero = refl
-cycles-length b j (suc n) = ap suc (cycles-length b (suc j) n)
 
 -- ---- the loop's invariant, with its beginning, its turn and its end as laws on plain lists
 
@@ -70,7 +47,7 @@ put-before a w lent done new h =
 module _ (n rate : ℕ) (answers lent : List ℕ) where
   -- the shares of m steps from step k on, and of all from there on
   abbrev sharesOf : ℕ → ℕ → List ℕ
-  sharesOf k m = numbersBytes shareLength (sharesAfter rate (upTo answers k) (cyclesFrom answers k m))
+  sharesOf k m = numbersBytes shareLength (sharesAfter rate (cyclesTo answers k) (cyclesFrom answers k m))
 
   abbrev sharesFrom : ℕ → List ℕ
   sharesFrom k = sharesOf k (n - k)
@@ -78,12 +55,12 @@ module _ (n rate : ℕ) (answers lent : List ℕ) where
   -- these are written; `left` is what the first k steps cost, and `due` is that in cents
   pub record Going (written : List ℕ) (left due k : ℕ) : Type 0 where
     pub done : written ≡ take (shareLength * k) lent ++ (sharesFrom k ++ drop (shareLength * n) lent)
-    pub cost-left : left ≡ cost rate (upTo answers k)
+    pub cost-left : left ≡ cost rate (cyclesTo answers k)
     pub due-left : due ≡ left / rateCycles
     pub within : k ≤ n
 
   -- none is written
-  pub begin : {total left due : ℕ} → total ≡ upTo answers n → left ≡ cost rate total → due ≡ left / rateCycles
+  pub begin : {total left due : ℕ} → total ≡ cyclesTo answers n → left ≡ cost rate total → due ≡ left / rateCycles
       → Going lent left due n
   begin e l d =
       record {
@@ -105,9 +82,9 @@ module _ (n rate : ℕ) (answers lent : List ℕ) where
     pub same-room : length written ≡ length lent
     same-room =
         let done-size : length (sharesFrom k) ≡ shareLength * (n - k) =
-        numbers-length shareLength (sharesAfter rate (upTo answers k) (cyclesFrom answers k (n - k)))
+        numbers-length shareLength (sharesAfter rate (cyclesTo answers k) (cyclesFrom answers k (n - k)))
         ∙ ap (λ (m : ℕ). shareLength * m)
-        (shares-length rate (upTo answers k) (cyclesFrom answers k (n - k)) ∙ cycles-length answers k (n - k)) in
+        (shares-length rate (cyclesTo answers k) (cyclesFrom answers k (n - k)) ∙ cycles-length answers k (n - k)) in
         ap length (g .done)
         ∙ length-append (take (shareLength * k) lent) _
         ∙ omega (
@@ -124,33 +101,33 @@ module _ (n rate : ℕ) (answers lent : List ℕ) where
       one-on : suc (k - 1) ≡ k
       one-on = omega arith
 
-      up : upTo answers k ≡ upTo answers (k - 1) + c
+      up : cyclesTo answers k ≡ cyclesTo answers (k - 1) + c
       up =
-          ap (upTo answers) (sym one-on) ∙ up-further answers (k - 1)
-          ∙ ap (λ (x : ℕ). upTo answers (k - 1) + x) (sym step)
+          ap (cyclesTo answers) (sym one-on) ∙ cycles-further answers (k - 1)
+          ∙ ap (λ (x : ℕ). cyclesTo answers (k - 1) + x) (sym step)
 
       -- its cost is a part of what is left
-      cost-part : left ≡ cost rate (upTo answers (k - 1)) + c * rate
-      cost-part = g .cost-left ∙ ap (cost rate) up ∙ omega (arith, add-mul (upTo answers (k - 1)) c rate)
+      cost-part : left ≡ cost rate (cyclesTo answers (k - 1)) + c * rate
+      cost-part = g .cost-left ∙ ap (cost rate) up ∙ omega (arith, add-mul (cyclesTo answers (k - 1)) c rate)
 
       pub part-left : c * rate ≤ left
       part-left = omega (arith, cost-part)
 
-      less : left - c * rate ≡ cost rate (upTo answers (k - 1))
+      less : left - c * rate ≡ cost rate (cyclesTo answers (k - 1))
       less = omega (arith, cost-part)
 
       -- what was due, and what is due before the step
-      due-is : due ≡ charge rate (upTo answers (k - 1) + c)
+      due-is : due ≡ charge rate (cyclesTo answers (k - 1) + c)
       unfolding charge
       due-is = g .due-left ∙ ap (λ (x : ℕ). x / rateCycles) (g .cost-left ∙ ap (cost rate) up)
 
-      before-is : (left - c * rate) / rateCycles ≡ charge rate (upTo answers (k - 1))
+      before-is : (left - c * rate) / rateCycles ≡ charge rate (cyclesTo answers (k - 1))
       unfolding charge
       before-is = ap (λ (x : ℕ). x / rateCycles) less
 
       -- no share is less than 0
       pub grows : (left - c * rate) / rateCycles ≤ due
-      grows = omega (arith, due-is, before-is, charge-grows rate (upTo answers (k - 1)) c)
+      grows = omega (arith, due-is, before-is, charge-grows rate (cyclesTo answers (k - 1)) c)
 
       -- the shares from the step on
       further : sharesFrom (k - 1) ≡ bytes shareLength (due - (left - c * rate) / rateCycles) ++ sharesFrom k
@@ -160,7 +137,7 @@ module _ (n rate : ℕ) (answers lent : List ℕ) where
           ∙ ap₂
           (λ (x j : ℕ).
           numbersBytes shareLength
-          (sharesAfter rate (upTo answers (k - 1)) (x ∷ cyclesFrom answers j (n - k))))
+          (sharesAfter rate (cyclesTo answers (k - 1)) (x ∷ cyclesFrom answers j (n - k))))
           (sym step) one-on
           ∙ ap₂ (λ (x y : ℕ). bytes shareLength x ++ numbersBytes shareLength (sharesAfter rate y (cyclesFrom answers k (n - k))))
           (ap₂ (λ (x y : ℕ). x - y) (sym due-is) (sym before-is)) (sym up)

@@ -6,7 +6,6 @@ use mathlib.Core.Logic.{_≢_}
 use mathlib.Core.List.{List, [], _∷_, _++_}
 use Prim.Native.Nat.{ℕ, zero, suc, _+_, _-_, _*_, _^_, _≤_, _<_}
 use native.Mathlib.Omega.{arith}
-use native.Mathlib.Nat.{add-zero}
 use lib.ListN.{length, getD, take, drop, length-map, List·getD-append}
 use lib.Seq.{drop-at}
 use lib.Dec.{eqb, ltb, lit<}
@@ -31,7 +30,7 @@ use Rattle.model.specs.Laws.Fits.{answers-count, total-fits}
 use Rattle.model.specs.Laws.Codec.{numbers-length, numbers-back, numbers-at}
 use Rattle.model.specs.Laws.Demand3.{cycles-there, alike-count, same-cycles, demand3}
 use Rattle.model.specs.Laws.Charge.{rounded-up, cost-fits, adds-at-most, adds-at-least}
-use Rattle.model.specs.Laws.Charge.{shares-length, shares-add-up, share-is}
+use Rattle.model.specs.Laws.Charge.{shares-length, shares-add-up, share-is, cycles-further}
 use Rattle.model.specs.declared.Refusal.the-variants.{ShortAnswers, FaultyRecord, BadRate}
 use Rattle.model.specs.declared.Verdict.{Verdict}
 use Rattle.model.specs.declared.Verdict.the-variants.{Accepted, Refused}
@@ -224,24 +223,12 @@ part-of-sum [] k = omega arith
 part-of-sum (x ∷ xs) zero = omega arith
 part-of-sum (x ∷ xs) (suc k) = omega (arith, part-of-sum xs k)
 
--- one more
-sum-further : (xs : List ℕ) (k : ℕ) → k < length xs → sum (take (suc k) xs) ≡ sum (take k xs) + getD xs k 0
-sum-further [] k h = absurd (omega arith)
-sum-further (x ∷ xs) zero h = omega arith
-sum-further (x ∷ xs) (suc k) h = omega (arith, sum-further xs k (omega arith))
-
--- the cycles of the first k steps, and those of step k, among those of all
+-- the cycles of the first k steps among those of all
 cycles-to : (b : List ℕ) (j k n : ℕ) → k ≤ n → cyclesFrom b j k ≡ take k (cyclesFrom b j n)
 cycles-to b j zero n h = refl
 cycles-to b j (suc k) zero h = absurd (omega arith)
 cycles-to b j (suc k) (suc n) h =
     ap (λ (cs : List ℕ). number 4 b (answerStart j + 4) ∷ cs) (cycles-to b (suc j) k n (omega arith))
-
-cycles-at : (b : List ℕ) (j k n : ℕ) → k < n → getD (cyclesFrom b j n) k 0 ≡ number 4 b (answerStart (j + k) + 4)
-cycles-at b j k zero h = absurd (omega arith)
-cycles-at b j zero (suc n) h = ap (λ (i : ℕ). number 4 b (answerStart i + 4)) (sym (add-zero j))
-cycles-at b j (suc k) (suc n) h =
-    cycles-at b (suc j) k n (omega arith) ∙ ap (λ (i : ℕ). number 4 b (answerStart i + 4)) (omega arith)
 
 module _ (t : Tariffed) (b : Billed) (ok : b ≡ bill t) (zero-number : b .run .number ≡ 0) where
   asked : TariffAcceptable t
@@ -304,36 +291,32 @@ module _ (t : Tariffed) (b : Billed) (ok : b ≡ bill t) (zero-number : b .run .
     cycles-are : cyclesFrom (b .run .answers) 0 n ≡ cycles
     cycles-are = cycles-there (t .run) (b .run) run-is zero-number lent
 
+    -- the cycles of the first steps
+    abbrev to : ℕ → ℕ
+    to k = cyclesTo (b .run .answers) k
+
     module _ (k : ℕ) (h : k < n) where
       share-there : shareAt b k ≡ getD (shares (t .rate) cycles) k 0
       share-there =
           sym (numbers-at shareLength (b .shares) 0 n k h ∙ ap (number shareLength (b .shares)) (omega arith))
           ∙ ap (λ (xs : List ℕ). getD xs k 0) shares-there
 
-      up-to : (j : ℕ) → j ≤ n → cyclesTo b j ≡ sum (take j cycles)
+      up-to : (j : ℕ) → j ≤ n → to j ≡ sum (take j cycles)
       up-to j l = ap sum (cycles-to (b .run .answers) 0 j n l ∙ ap (take j) cycles-are)
 
-      share-told : shareAt b k ≡ charge (t .rate) (cyclesTo b (suc k)) - charge (t .rate) (cyclesTo b k)
+      share-told : shareAt b k ≡ charge (t .rate) (to (suc k)) - charge (t .rate) (to k)
       share-told =
           share-there ∙ share-is (t .rate) cycles k (omega (arith, as-many))
           ∙ sym (ap₂ (λ (x y : ℕ). charge (t .rate) x - charge (t .rate) y) (up-to (suc k) (omega arith)) (up-to k (omega arith)))
 
-      -- the cycles of step k come on top of those before it
-      one-more : cyclesTo b (suc k) ≡ cyclesTo b k + cyclesAt b k
-      one-more =
-          up-to (suc k) (omega arith) ∙ sum-further cycles k (omega (arith, as-many))
-          ∙ ap₂ (λ (x y : ℕ). x + y) (sym (up-to k (omega arith)))
-          (ap (λ (cs : List ℕ). getD cs k 0) (sym cycles-are)
-          ∙ cycles-at (b .run .answers) 0 k n h ∙ ap (λ (i : ℕ). number 4 (b .run .answers) (answerStart i + 4)) (omega arith))
-
-      added : shareAt b k ≡ charge (t .rate) (cyclesTo b k + cyclesAt b k) - charge (t .rate) (cyclesTo b k)
-      added = share-told ∙ ap (λ (x : ℕ). charge (t .rate) x - charge (t .rate) (cyclesTo b k)) one-more
+      added : shareAt b k ≡ charge (t .rate) (to k + cyclesAt b k) - charge (t .rate) (to k)
+      added = share-told ∙ ap (λ (x : ℕ). charge (t .rate) x - charge (t .rate) (to k)) (cycles-further (b .run .answers) k)
 
       most-told : shareAt b k ≤ charge (t .rate) (cyclesAt b k)
-      most-told = rw added (adds-at-most (t .rate) (cyclesTo b k) (cyclesAt b k))
+      most-told = rw added (adds-at-most (t .rate) (to k) (cyclesAt b k))
 
       least-told : chargeDown (t .rate) (cyclesAt b k) ≤ shareAt b k
-      least-told = rw added (adds-at-least (t .rate) (cyclesTo b k) (cyclesAt b k))
+      least-told = rw added (adds-at-least (t .rate) (to k) (cyclesAt b k))
 
   pub bills : Bills t b
   bills =

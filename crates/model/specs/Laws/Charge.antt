@@ -1,13 +1,14 @@
 -- The charge and the shares, of plain numbers: the charge is rounded up, a share lies between what its cycles cost alone rounded
 -- down and rounded up, and shares add up to the charge.
-use mathlib.Core.Path.{_≡_, refl, ap}
+use mathlib.Core.Path.{_≡_, refl, ap, _∙_}
 use mathlib.Core.List.{List, [], _∷_}
 use Prim.Native.Nat.{ℕ, zero, suc, _+_, _-_, _*_, _≤_, _<_, _^_}
 use native.Mathlib.Omega.{arith}
 use native.Mathlib.Nat.{zero-add, add-zero, add-assoc, add-mul, mul-le-mul}
 use lib.ListN.{length, getD, take}
-use Rattle.model.specs.Base.{sum}
-use Rattle.model.specs.Tariff.{rateCycles, maxRate, cost, charge, chargeDown, sharesAfter, shares}
+use Rattle.model.specs.Base.{sum, number}
+use Rattle.model.specs.Alike.{answerStart, cyclesFrom}
+use Rattle.model.specs.Tariff.{rateCycles, maxRate, cost, charge, chargeDown, sharesAfter, shares, cyclesTo}
 
 -- ---- the charge
 
@@ -78,3 +79,20 @@ share-after rate before (c ∷ cs) (suc k) h =
 pub share-is : (rate : ℕ) (cs : List ℕ) (k : ℕ) → k < length cs
     → getD (shares rate cs) k 0 ≡ charge rate (sum (take (suc k) cs)) - charge rate (sum (take k cs))
 share-is rate cs k h = rw (zero-add, zero-add) at (share-after rate 0 cs k h)
+
+-- ---- the cycles that stand in answers
+
+pub cycles-length : (b : List ℕ) (j n : ℕ) → length (cyclesFrom b j n) ≡ n
+cycles-length b j zero = refl
+cycles-length b j (suc n) = ap suc (cycles-length b (suc j) n)
+
+-- one step more
+sum-further : (b : List ℕ) (j k : ℕ)
+    → sum (cyclesFrom b j (suc k)) ≡ sum (cyclesFrom b j k) + number 4 b (answerStart (j + k) + 4)
+sum-further b j zero = omega (arith, ap (λ (i : ℕ). number 4 b (answerStart i + 4)) (add-zero j))
+sum-further b j (suc k) =
+    let e : suc j + k ≡ j + suc k = omega arith in
+    omega (arith, sum-further b (suc j) k, ap (λ (i : ℕ). number 4 b (answerStart i + 4)) e)
+
+pub cycles-further : (b : List ℕ) (k : ℕ) → cyclesTo b (suc k) ≡ cyclesTo b k + number 4 b (answerStart k + 4)
+cycles-further b k = sum-further b 0 k ∙ ap (λ (i : ℕ). cyclesTo b k + number 4 b (answerStart i + 4)) (zero-add k)
