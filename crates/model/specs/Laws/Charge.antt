@@ -59,7 +59,7 @@ shares-length rate before (c ∷ cs) = ap suc (shares-length rate (before + c) c
 -- behind the charge so far, they add up to the charge of all
 shares-sum : (rate before : ℕ) (cs : List ℕ)
     → charge rate before + sum (sharesAfter rate before cs) ≡ charge rate (before + sum cs)
-shares-sum rate before [] = rw (add-zero, add-zero)
+shares-sum rate before [] = rw (add-zero (charge rate before), add-zero before)
 shares-sum rate before (c ∷ cs) =
     omega
     (arith, charge-grows rate before c, shares-sum rate (before + c) cs, ap (charge rate) (add-assoc before c (sum cs)))
@@ -72,13 +72,14 @@ share-after : (rate before : ℕ) (cs : List ℕ) (k : ℕ) → k < length cs
     → getD (sharesAfter rate before cs) k 0
     ≡ charge rate (before + sum (take (suc k) cs)) - charge rate (before + sum (take k cs))
 share-after rate before [] k h = absurd (omega arith)
-share-after rate before (c ∷ cs) zero h = rw (add-zero, add-zero)
+share-after rate before (c ∷ cs) zero h = rw (add-zero c, add-zero before)
 share-after rate before (c ∷ cs) (suc k) h =
-    rw (← add-assoc, ← add-assoc) (share-after rate (before + c) cs k (omega arith))
+    rw (← add-assoc before c (sum (take (suc k) cs)), ← add-assoc before c (sum (take k cs)))
+    (share-after rate (before + c) cs k (omega arith))
 
 pub share-is : (rate : ℕ) (cs : List ℕ) (k : ℕ) → k < length cs
     → getD (shares rate cs) k 0 ≡ charge rate (sum (take (suc k) cs)) - charge rate (sum (take k cs))
-share-is rate cs k h = rw (zero-add, zero-add) at (share-after rate 0 cs k h)
+share-is rate cs k h = rw (zero-add (sum (take (suc k) cs)), zero-add (sum (take k cs))) at (share-after rate 0 cs k h)
 
 -- ---- the cycles that stand in answers
 
