@@ -2,6 +2,7 @@
 // `bts_run_tariff`. include/bts.h documents both for C.
 mod run;
 
+use examine::examine_tariff;
 use model::Lengths;
 use model::Verdict;
 use records::sheet;
@@ -139,6 +140,54 @@ fn bill_accepted(
     }
 }
 
+// The same from the examination on: an accepted sheet is run and billed, a refused one is told.
+fn bill_examined(
+    sheet: &[u8],
+    board: &mut [u8],
+    store: &mut [u8],
+    bios: &[u8],
+    rom: &[u8],
+    answers: &mut [u8],
+    shares: &mut [u8],
+    lengths: Lengths,
+    rate: u32,
+) -> Bill
+    ensures { λ r. ⌜ reportedBill r (now (board .exit)) (now (store .exit)) (now (answers .exit)) (now (shares .exit))
+        ≡ bill (tariffing (lending (now (sheet .entry)) (now (board .entry)) (now (store .entry)) (now (bios .entry))
+        (now (rom .entry)) (now (answers .entry)) lengths) (now (shares .entry)) rate) ⌝ }
+{
+    let verdict = examine_tariff(
+        sheet,
+        board,
+        store,
+        bios,
+        rom,
+        answers,
+        shares,
+        lengths,
+        rate,
+    );
+    match verdict {
+        Verdict::Accepted => bill_accepted(
+            sheet,
+            board,
+            store,
+            bios,
+            rom,
+            answers,
+            shares,
+            lengths,
+            rate,
+        ),
+        Verdict::Refused(refusal) => Bill {
+            number: examine::refusal_number(refusal),
+            index: examine::refusal_index(refusal) as u32,
+            total: 0,
+            charge: 0,
+        },
+    }
+}
+
 #[no_mangle]
 pub extern "C" fn bts_run_tariff(
     sheet: &[u8],
@@ -172,7 +221,7 @@ pub extern "C" fn bts_run_tariff(
         oam,
         sram,
     };
-    let verdict = examine::examine_tariff(
+    bill_examined(
         sheet,
         board,
         store,
@@ -182,24 +231,5 @@ pub extern "C" fn bts_run_tariff(
         shares,
         lengths,
         rate,
-    );
-    match verdict {
-        Verdict::Accepted => bill_accepted(
-            sheet,
-            board,
-            store,
-            bios,
-            rom,
-            answers,
-            shares,
-            lengths,
-            rate,
-        ),
-        Verdict::Refused(refusal) => Bill {
-            number: examine::refusal_number(refusal),
-            index: examine::refusal_index(refusal) as u32,
-            total: 0,
-            charge: 0,
-        },
-    }
+    )
 }

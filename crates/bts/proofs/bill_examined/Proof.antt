@@ -1,4 +1,4 @@
--- `bts_run_tariff` meets its contract: the verdict decides, an accepted sheet is run and billed, a refused one changes nothing.
+-- `bill_examined` meets its contract: the verdict decides, an accepted sheet is run and billed, a refused one changes nothing.
 -- Assumes nothing.
 use mathlib.Core.Path.{_≡_, refl, sym, ap, _∙_}
 use native.Mathlib.Omega.{arith}
@@ -8,8 +8,8 @@ use Rattle.model.specs.declared.Verdict.the-variants.{Accepted}
 use Rattle.examine.specs.Lent.{lending, tariffing}
 use Rattle.examine.specs.Verdicts.{tariff-index-small}
 use Rattle.bts.specs.Reported.{refused-bill}
-use Rattle.bts.proofs.bts_run_tariff.Statement.{statement}
-use Rattle.bts.proofs.bts_run_tariff.Tie as tie
+use Rattle.bts.proofs.bill_examined.Statement.{statement}
+use Rattle.bts.proofs.bill_examined.Tie as tie
 
 -- ---- the verdict is there
 
@@ -20,16 +20,7 @@ abbrev lent : tie.After-examine-tariff → Tariffed
 lent c =
     let g = start c .args in
     tariffing
-    (lending (g .sheet .now) (g .board .now) (g .store .now) (g .bios .now) (g .rom .now) (g .answers .now)
-    (record {
-      ewram = g .ewram;
-      iwram = g .iwram;
-      io = g .io;
-      palette = g .palette;
-      vram = g .vram;
-      oam = g .oam;
-      sram = g .sram;
-    }))
+    (lending (g .sheet .now) (g .board .now) (g .store .now) (g .bios .now) (g .rom .now) (g .answers .now) (g .lengths))
     (g .shares .now) (g .rate)
 
 -- ---- the sheet is accepted
@@ -54,7 +45,7 @@ returns c =
 abbrev refused : tie.After-refusal-index → tie.After-verdict
 refused c = c .before .before .before
 
-index-fits : tie.Need-cast-t38
+index-fits : tie.Need-cast-t31
 index-fits c =
     let v = refused c in
     let e = v .before .before in
@@ -70,8 +61,8 @@ returns-2 c =
     (sym (e .examine-tariff .ensures) ∙ v .verdict .given .1) (c .before .refusal-number .ensures) (c .refusal-index .ensures)
     refl refl
 
-pub bts-run-tariff-spec : {M : Type 1} → statement M
-bts-run-tariff-spec =
+pub bill-examined-spec : {M : Type 1} → statement M
+bill-examined-spec =
     tie.close
     (tie.spec
     (λ c κs. search needs)
