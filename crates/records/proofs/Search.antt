@@ -1,48 +1,51 @@
--- The search for a record: laws that both passes share. Assumes nothing.
-use mathlib.Core.Path.{_≡_, sym, _∙_}
+-- The search for the least faulty of n records. Assumes nothing.
+use mathlib.Core.Path.{_≡_, sym, ap, _∙_}
 use mathlib.Core.Bool.{Bool, true, false}
 use mathlib.Core.List.{List}
 use Prim.Native.Nat.{ℕ, suc, _+_, _-_, _≤_, _<_}
-use native.Mathlib.Nat.{zero-add, add-zero, sub-zero}
+use native.Mathlib.Nat.{zero-add, add-zero}
 use native.Mathlib.Omega.{arith}
-use Rattle.model.specs.Sheet.{recordAt, recordsFrom, firstOf}
-use Rattle.model.specs.declared.SheetRecord.{SheetRecord}
+use Rattle.model.specs.Sheet.{recordAt, recordsFrom, faulty, firstOf, leastFaulty}
 
--- ---- the first of n records that a test finds
+-- it is none of the records before the last `left` ones
+pub record Sought (s : List ℕ) (n left : ℕ) : Type 0 where
+  pub within : left ≤ n
+  pub same : leastFaulty (recordsFrom s 0 n) ≡ n - left + leastFaulty (recordsFrom s (n - left) left)
 
--- it is none of the first k
-pub record Sought (f : SheetRecord → Bool) (s : List ℕ) (n k : ℕ) : Type 0 where
-  pub within : k ≤ n
-  pub same : firstOf f (recordsFrom s 0 n) ≡ k + firstOf f (recordsFrom s k (n - k))
+-- the first of these is looked at: t tells whether it is faulty
+pub record Looked (s : List ℕ) (n left : ℕ) (t : Bool) : Type 0 where
+  pub sought : Sought s n left
+  pub more : 0 < left
+  pub told : t ≡ faulty (recordAt s (n - left))
 
--- record k is looked at: t tells whether it is the one
-pub record Looked (f : SheetRecord → Bool) (s : List ℕ) (n k : ℕ) (t : Bool) : Type 0 where
-  pub sought : Sought f s n k
-  pub more : k < n
-  pub told : t ≡ f (recordAt s k)
+module _ {s : List ℕ} {n : ℕ} where
+  pub none-sought : Sought s n n
+  none-sought =
+      let z : n - n ≡ 0 = omega arith in
+      record { within = omega arith; same = rw z (sym (zero-add (leastFaulty (recordsFrom s 0 n)))) }
 
-module _ {f : SheetRecord → Bool} {s : List ℕ} {n : ℕ} where
-  pub none-sought : Sought f s n 0
-  none-sought = record { within = omega arith; same = simp (sub-zero, zero-add) }
+  module _ {left : ℕ} {t : Bool} (g : Looked s n left t) where
+    -- what is left is one record and the others
+    here : leastFaulty (recordsFrom s 0 n) ≡ n - left + leastFaulty (recordsFrom s (n - left) (suc (left - 1)))
+    here =
+        g .sought .same
+        ∙ ap (λ (m : ℕ). n - left + leastFaulty (recordsFrom s (n - left) m)) {x = left} {y = suc (left - 1)} (omega (arith, g .more))
 
-  module _ {k : ℕ} {t : Bool} (g : Looked f s n k t) where
-    one-more : n - k ≡ suc (n - (k + 1))
-    one-more = omega (arith, g .more)
-
-    pub found : t ≡ true → k ≡ firstOf f (recordsFrom s 0 n)
+    pub found : t ≡ true → n - left ≡ leastFaulty (recordsFrom s 0 n)
     unfolding firstOf recordsFrom
-    found u = sym (g .sought .same ∙ rw (one-more, sym (g .told) ∙ u) (add-zero k))
+    found u = sym (here ∙ rw (sym (g .told) ∙ u) (add-zero (n - left)))
 
-    pub passed : t ≡ false → Sought f s n (k + 1)
+    pub passed : t ≡ false → Sought s n (left - 1)
     unfolding firstOf recordsFrom
     passed u =
+        let next : n - left + 1 ≡ n - (left - 1) = omega (arith, g .more, g .sought .within) in
         record {
-          within = omega (arith, g .more);
-          same = g .sought .same ∙ rw (one-more, sym (g .told) ∙ u) (omega arith);
+          within = omega (arith, g .sought .within);
+          same = here ∙ rw (sym (g .told) ∙ u) (rw (sym next) (omega arith));
         }
 
-  pub all-sought : {k : ℕ} → Sought f s n k → n ≤ k → k ≡ firstOf f (recordsFrom s 0 n)
+  pub all-sought : {left : ℕ} → Sought s n left → left ≤ 0 → n ≡ leastFaulty (recordsFrom s 0 n)
   unfolding firstOf recordsFrom
-  all-sought {k} g h =
-      let z : n - k ≡ 0 = omega arith in
-      sym (g .same ∙ rw z (add-zero k))
+  all-sought {left} g h =
+      let z : left ≡ 0 = omega arith in
+      sym (g .same ∙ rw z (omega arith))

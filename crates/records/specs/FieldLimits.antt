@@ -1,4 +1,4 @@
--- The greatest flag, address and value of each kind, as `field_fault` reads them from a table.
+-- The greatest flag, address and value of each kind, as `least_faulty` has them in its table, behind the sizes.
 use mathlib.Core.List.{List, [], _∷_}
 use Prim.Native.Nat.{ℕ, zero, suc}
 use lib.Dec.{eqb}

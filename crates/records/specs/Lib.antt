@@ -1,2 +1,2 @@
--- What the contracts of this crate cite, beside the model.
+-- What the table of kinds in the code is held against, beside the model.
 pub mod FieldLimits

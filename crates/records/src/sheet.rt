@@ -15,7 +15,6 @@ ghost use mathlib.Core.Path.{_≡_};
 ghost use Prim.Native.Nat.{_+_, _*_, _≤_};
 ghost use lib.ListN.{length};
 ghost use Rattle.model.specs.Sheet as def;
-ghost use Rattle.records.specs.FieldLimits.{kindLimits};
 
 // ---- the header
 
@@ -128,90 +127,50 @@ pub fn step_of(r: SheetRecord) -> Step
 
 // ---- the faults of a record
 
-// The sizes of each kind: bit 5 * kind + size. Five bits a kind, from kind 9 down to 0, which is no kind: sizes 1, 2 and 4 for
-// kinds 1 and 2, sizes 2 and 4 for kind 7, size 0 for the others.
-const SIZES: u64 = 0b00001_00001_10100_00001_00001_00001_00001_10110_10110_00000;
-
-// A fault that the first pass looks for: the kind, or its size. The kind is not branched on, here and in the second pass:
-// kinds follow each other in no order, so that a branch would often be guessed wrong.
-fn kind_fault(r: SheetRecord) -> bool
-    ensures { λ x. ⌜ x ≡ def.kindFault r ⌝ }
-{
-    if (r.kind > 9) | (r.size > 4) {
-        return true;
-    }
-    (SIZES >> (5 * r.kind as u32 + r.size as u32)) % 2 == 0
-}
-
 // The limit of a field that may hold any number.
 const ANY: u32 = 0xFFFF_FFFF;
 
-// The greatest flag, address and value of each kind: 0 where a kind doesn't use the field. There is no kind 0.
-fn limits() -> [[u32; 3]; 10]
-    ensures { λ r. ⌜ r ≡ kindLimits ⌝ }
-{
-    [
-        [0, 0, 0], // 0, no kind
-        [0, ANY, 0], // 1 READ
-        [0, ANY, ANY], // 2 WRITE
-        [0, 0, 0xFFFF], // 3 WAITCNT
-        [0, 0, ANY], // 4 IDLE
-        [0, ANY, 0], // 5 FETCH
-        [0, ANY, 0], // 6 RESTART
-        [1, ANY, ANY], // 7 INSTRUCTION
-        [0, ANY, 0], // 8 PC
-        [0, 0, ANY], // 9 LATCH
-    ]
-}
+// What each kind allows: its sizes, bit s for size s; then the greatest flag, address and value, 0 where it doesn't use the
+// field. There is no kind 0, and no size fits it.
+const KINDS: [[u32; 4]; 10] = [
+    [0b00000, 0, 0, 0], // 0, no kind
+    [0b10110, 0, ANY, 0], // 1 READ
+    [0b10110, 0, ANY, ANY], // 2 WRITE
+    [0b00001, 0, 0, 0xFFFF], // 3 WAITCNT
+    [0b00001, 0, 0, ANY], // 4 IDLE
+    [0b00001, 0, ANY, 0], // 5 FETCH
+    [0b00001, 0, ANY, 0], // 6 RESTART
+    [0b10100, 1, ANY, ANY], // 7 INSTRUCTION
+    [0b00001, 0, ANY, 0], // 8 PC
+    [0b00001, 0, 0, ANY], // 9 LATCH
+];
 
-// A fault that the second pass looks for: the other fields. Each is at most its limit; the flag and the zero byte behind it
-// are one number. A kind over 9 uses nothing, like kind 0. The caller makes the table, once for all records.
-fn field_fault(r: SheetRecord, limits: &[[u32; 3]; 10]) -> bool
-    requires { ⌜ now limits ≡ kindLimits ⌝ }
-    ensures { λ x. ⌜ x ≡ def.fieldFault r ⌝ }
-{
-    let k = if r.kind <= 9 { r.kind as usize } else { 0 };
-    let most = limits[k];
-    !((half(r.flag, r.zero_byte) as u32 <= most[0]) & (r.address <= most[1]) & (r.value <= most[2]))
-}
-
-// The first record of n with a fault of kind or size; n where there is none.
-fn first_kind_fault(sheet: &[u8], n: usize) -> usize
-    requires { ⌜ def.headerLength + def.recordLength * n ≤ length (now sheet) ⌝ }
-    ensures { λ r. ⌜ r ≡ def.firstOf def.kindFault (def.recordsFrom (now (sheet .entry)) 0 n) ⌝ }
-{
-    let mut k: usize = 0;
-    while k < n {
-        if kind_fault(record_at(sheet, k)) {
-            return k;
-        }
-        k += 1;
-    }
-    k
-}
-
-// The first record of n with a fault in its other fields; n where there is none.
-fn first_field_fault(sheet: &[u8], n: usize) -> usize
-    requires { ⌜ def.headerLength + def.recordLength * n ≤ length (now sheet) ⌝ }
-    ensures { λ r. ⌜ r ≡ def.firstOf def.fieldFault (def.recordsFrom (now (sheet .entry)) 0 n) ⌝ }
-{
-    let limits = limits();
-    let mut k: usize = 0;
-    while k < n {
-        if field_fault(record_at(sheet, k), &limits) {
-            return k;
-        }
-        k += 1;
-    }
-    k
-}
-
-// The least faulty of n records: one pass for kinds and sizes, a second for the other fields. n where there is none.
+// The least faulty of n records, in one pass: `left` of them are still to be looked at, and k is the first of these. n where
+// there is none. A record is held against the row of its kind; the flag and the zero byte behind it are one number. The kind is
+// not branched on: kinds follow each other in no order, so that a branch would often be guessed wrong. The table is put in place
+// once, not for each record.
 pub fn least_faulty(sheet: &[u8], n: usize) -> usize
     requires { ⌜ def.headerLength + def.recordLength * n ≤ length (now sheet) ⌝ }
     ensures { λ r. ⌜ r ≡ def.leastFaulty (def.recordsFrom (now (sheet .entry)) 0 n) ⌝ }
 {
-    let kind = first_kind_fault(sheet, n);
-    let field = first_field_fault(sheet, n);
-    if kind <= field { kind } else { field }
+    let kinds = KINDS;
+    let mut left = n;
+    while left > 0 {
+        let k = n - left;
+        let r = record_at(sheet, k);
+        // no row for the kind, or no bit for the size
+        if (r.kind > 9) | (r.size > 4) {
+            return k;
+        }
+        let row = kinds[r.kind as usize];
+        let fits = ((row[0] >> r.size as u32) % 2 == 1)
+            & (half(r.flag, r.zero_byte) as u32 <= row[1])
+            & (r.address <= row[2])
+            & (r.value <= row[3]);
+        if !fits {
+            return k;
+        }
+        left -= 1;
+    }
+    n
 }

@@ -1,25 +1,96 @@
--- `records::sheet::least_faulty` meets its contract: the first with either fault is the lesser of the first with each.
+-- `records::sheet::least_faulty` meets its contract: all but `left` of n records are passed, and the search goes on behind them.
 -- Assumes nothing.
-use mathlib.Core.Path.{_≡_, sym, ap₂, _∙_}
-use Prim.Native.Nat.{min}
+use mathlib.Core.Path.{_≡_, refl, ap, _∙_}
+use mathlib.Core.Bool.{Bool, true}
+use mathlib.Core.List.{[]}
+use Prim.Native.Nat.{_≤_}
 use native.Mathlib.Omega.{arith}
+use lib.Dec.{ltb}
+use lib.ListN.{getD}
 use borrow.Author.Needs.{needs}
-use Rattle.model.specs.Sheet.{recordsFrom, kindFault, fieldFault, leastFaulty}
-use Rattle.model.specs.Laws.Refusal.{first-either}
+use borrow.Author.Tests.{ltb-false}
+use Rattle.model.specs.Sheet.{sizeFits, faulty}
+use Rattle.model.specs.Laws.Choice.{or-false-left, or-false-right}
+use Rattle.records.specs.FieldLimits.{limitsFrom}
+use Rattle.records.proofs.Search.{Sought, Looked, none-sought, found, passed, all-sought}
+use Rattle.records.proofs.KindRows.{kindRows, beyond-fault, breaks, row-fault}
 use Rattle.records.proofs.sheet.least_faulty.Statement.{statement}
 use Rattle.records.proofs.sheet.least_faulty.Tie as tie
 
--- behind both passes: what either return gives
-least : (c : tie.After-first-field-fault)
-    → (let a = c .before .before .before .args in
-    leastFaulty (recordsFrom (a .sheet .now) 0 (a .n)) ≡ min (c .before .first-kind-fault .result) (c .first-field-fault .result))
-least c =
-    let a = c .before .before .before .args in
-    first-either kindFault fieldFault (recordsFrom (a .sheet .now) 0 (a .n))
-    ∙ ap₂ min (sym (c .before .first-kind-fault .ensures)) (sym (c .first-field-fault .ensures))
+abbrev Inv-loop : tie.InvT-loop
+Inv-loop sheet n kinds left₀ left = Sought sheet n left
+
+abbrev μ-loop : tie.MeasureT-loop
+μ-loop sheet n kinds left₀ left = left
+
+loop-holds : tie.Need-loop-holds Inv-loop μ-loop
+loop-holds c = none-sought
+
+-- a turn that has its record: the loop that it is of, and the start
+abbrev loop : tie.After-record-at Inv-loop μ-loop → tie.At-loop Inv-loop μ-loop
+loop c = c .before .before
+
+abbrev entry : tie.At-loop Inv-loop μ-loop → tie.Start Inv-loop μ-loop
+entry c = c .before .before
+
+looked : (c : tie.After-record-at Inv-loop μ-loop) (t : Bool) → t ≡ faulty (c .record-at .result)
+    → (let a = entry (loop c) .args in Looked (a .sheet .now) (a .n) (loop c .loop .left) t)
+looked c t e =
+    record {
+      sought = loop c .loop .inv;
+      more = omega (arith, c .before .loop-test .taken);
+      told = e ∙ ap faulty (c .record-at .ensures);
+    }
+
+returns : tie.Need-returns Inv-loop μ-loop
+returns c =
+    let here = c .before .before .before in
+    found (looked here true (beyond-fault (here .record-at .result) (c .if1 .taken))) refl
+
+-- past the test: the record has a row, and its size a bit
+abbrev read : tie.Else1 Inv-loop μ-loop → tie.After-record-at Inv-loop μ-loop
+read c = c .before .before .before
+
+kind≤9 : (c : tie.Else1 Inv-loop μ-loop) → read c .record-at .result .kind ≤ 9
+kind≤9 c = ltb-false 9 _ (or-false-left _ _ (c .if1 .left))
+
+size≤4 : (c : tie.Else1 Inv-loop μ-loop) → read c .record-at .result .size ≤ 4
+size≤4 c = ltb-false 4 _ (or-false-right (ltb 9 (read c .record-at .result .kind)) _ (c .if1 .left))
+
+array-copy-out-row : tie.Need-array-copy-out-row Inv-loop μ-loop
+array-copy-out-row c = omega (arith, kind≤9 (c .before))
+
+shr-fits : tie.Need-shr-fits Inv-loop μ-loop
+shr-fits c = omega (arith, size≤4 (c .before .before .before))
+
+-- and behind the test by the row: it is the definition's
+abbrev tested : tie.After-struct-known6 Inv-loop μ-loop → tie.Else1 Inv-loop μ-loop
+tested c = c .before .before .before .before .before .before
+
+fault : (c : tie.After-struct-known6 Inv-loop μ-loop)
+    → (let r = read (tested c) .record-at .result in
+    breaks r (c .before .before .half .result) (getD kindRows (r .kind) []) ≡ faulty r)
+fault c =
+    row-fault (read (tested c) .record-at .result) (omega arith) (omega arith)
+    (kind≤9 (tested c)) (size≤4 (tested c)) (c .before .before .half .ensures)
+
+returns-2 : tie.Need-returns-2 Inv-loop μ-loop
+unfolding sizeFits limitsFrom
+returns-2 c = found (looked (read (tested (c .before))) _ (fault (c .before))) (c .if2 .taken)
+
+loop-again : tie.Need-loop-again Inv-loop μ-loop
+unfolding sizeFits limitsFrom
+loop-again c = passed (looked (read (tested (c .before))) _ (fault (c .before))) (c .if2 .left)
+
+more : (c : tie.Else2 Inv-loop μ-loop) → 1 ≤ loop (read (tested (c .before))) .loop .left
+more c = omega (arith, read (tested (c .before)) .before .loop-test .taken)
+
+returns-3 : tie.Need-returns-3 Inv-loop μ-loop
+returns-3 c = all-sought (c .before .loop .inv) (c .loop-test .left)
 
 pub least-faulty-spec : {M : Type 1} → statement M
 least-faulty-spec =
     tie.close
-    (tie.spec (search needs) (search needs) (λ c. omega (arith, least (c .before)))
-    (λ c. omega (arith, least (c .before))))
+    (tie.spec Inv-loop μ-loop loop-holds (λ c. omega arith) (λ c κs. omega arith) returns (search needs) (search needs)
+    array-copy-out-row (search needs) (search needs) shr-fits (search needs) (search needs) (search needs)
+    (search needs) (search needs) returns-2 more (λ c. omega (arith, more c)) loop-again returns-3)
