@@ -75,8 +75,11 @@ pub fn refusal(case: &Case) -> Option<(u32, u32)> {
     if case.answers.len() < ANSWER * n {
         return Some((6, 0));
     }
-    // two passes, each reporting its first faulty record: together the lowest record faulty in either
-    let least = records_of(sheet).iter().position(Record::faulty)?;
+    // document 01's two passes, where the library has one (document 02, W-203): the lowest record faulty in either
+    let records = records_of(sheet);
+    let by_kind = records.iter().position(Record::kind_or_size_faulty);
+    let by_fields = records.iter().position(Record::fields_faulty);
+    let least = by_kind.into_iter().chain(by_fields).min()?;
     Some((7, least as u32))
 }
 

@@ -201,6 +201,19 @@ fn faulty_record(rng: &mut Rng, r: Record) -> Record {
     r
 }
 
+/// A record of each fault, the two of kind and size first.
+pub fn faults() -> [Record; 6] {
+    let read = Record::new(READ, 4, 0x0200_0000, 0);
+    [
+        Record { kind: 10, ..read },
+        Record { size: 3, ..read },
+        Record { flag: 1, ..read },
+        Record { zero: 1, ..read },
+        Record { value: 1, ..read },
+        Record::new(IDLE, 0, 0x0200_0000, 1),
+    ]
+}
+
 /// A good case with a few random bytes of its sheet or its board changed; it may still be accepted.
 pub fn damaged(rng: &mut Rng) -> Plan {
     let mut plan = gen::accepted(rng, 1);

@@ -10,7 +10,7 @@ use crate::notation;
 use crate::refusals;
 use crate::sample_bills;
 use crate::steps::Steps;
-use crate::sweeps::{edge_plan, end_plan, fill, one_of_each, ENDS};
+use crate::sweeps::{edge_plan, end_plan, faulty_plan, fill, one_of_each, ENDS};
 
 /// The most that a case of the sample lends, so that a replaying program can have fixed buffers:
 /// sheet, board, store, BIOS, ROM, answers, shares.
@@ -34,6 +34,7 @@ pub fn plans() -> Vec<Plan> {
     fills(&mut plans);
     refused(&mut plans);
     faulty_records(&mut plans);
+    fault_order(&mut plans);
     list_lengths(&mut plans);
     full_memories(&mut plans);
     memory_ends(&mut plans);
@@ -189,6 +190,19 @@ fn third_record(record: Record) -> Plan {
     let mut plan = Plan::accepted(prefetch_on(), &few(), &records);
     plan.meant = Some(if record.faulty() { 7 } else { 0 });
     plan
+}
+
+/// Each two faults, in either order; and a fault of the size and one of a field in the last of 4,096 records.
+fn fault_order(plans: &mut Vec<Plan>) {
+    let faults = refusals::faults();
+    for early in faults {
+        for late in faults.into_iter().filter(|&late| late != early) {
+            plans.push(faulty_plan(5, &[(2, early), (3, late)]));
+        }
+    }
+    for last in [faults[1], faults[4]] {
+        plans.push(faulty_plan(MOST_RECORDS, &[(MOST_RECORDS - 1, last)]));
+    }
 }
 
 /// No record, one, 4,096; and 4,097, which is refused.

@@ -12,6 +12,8 @@ pub fn for_each(visit: &mut dyn FnMut(Plan)) {
     refusal_sets(visit);
     list_lengths(visit);
     sheet_bytes(visit);
+    fault_pairs(visit);
+    fault_places(visit);
     board_bytes(visit);
     board_fields(visit);
     thumb_opcodes(visit);
@@ -100,6 +102,42 @@ fn sheet_bytes(visit: &mut dyn FnMut(Plan)) {
             visit(plan);
         }
     }
+}
+
+/// Each two faults, at each two of four records.
+fn fault_pairs(visit: &mut dyn FnMut(Plan)) {
+    for early in refusals::faults() {
+        for late in refusals::faults() {
+            for (i, j) in [(0, 1), (0, 2), (0, 3), (1, 2), (1, 3), (2, 3)] {
+                visit(faulty_plan(4, &[(i, early), (j, late)]));
+            }
+        }
+    }
+}
+
+/// Each fault at both ends and in the middle of short and long sheets, alone and with another one in the last record.
+fn fault_places(visit: &mut dyn FnMut(Plan)) {
+    let [of_kind, .., of_field] = refusals::faults();
+    for n in [1, 2, 3, MOST_RECORDS - 1, MOST_RECORDS] {
+        for fault in refusals::faults() {
+            for place in [0, n / 2, n - 1] {
+                visit(faulty_plan(n, &[(place, fault)]));
+                visit(faulty_plan(n, &[(n - 1, of_kind), (place, fault)]));
+                visit(faulty_plan(n, &[(n - 1, of_field), (place, fault)]));
+            }
+        }
+    }
+}
+
+/// A sheet of n records with some faulty ones put in their places.
+pub fn faulty_plan(n: usize, faults: &[(usize, Record)]) -> Plan {
+    let mut records: Vec<Record> = one_of_each().into_iter().cycle().take(n).collect();
+    for &(place, fault) in faults {
+        records[place] = fault;
+    }
+    let mut plan = Plan::accepted(prefetch_on(), &small(), &records);
+    plan.meant = Some(7);
+    plan
 }
 
 /// What can be seen of a prefetch: where it stands, what it holds, how it goes on.
