@@ -1,4 +1,5 @@
-//! Shows that the cost of a step doesn't grow with the IDLE value, the memories' lengths or the step's number.
+//! Shows that the cost of a step doesn't grow with the IDLE value, the memories' lengths or the step's number, nor that of a
+//! record's examination with the number of records or with a fault behind them.
 
 use crate::bus::region::{BIOS_SIZE, ROM_WINDOW_SIZE};
 use crate::bytes::*;
@@ -23,6 +24,9 @@ struct Case {
     memories: Memories,
     board: Vec<u8>,
     answers: Vec<u8>,
+    shares: Vec<u8>,
+    /// What it gives back: 0 for a run; 7 or 8 for an examination alone.
+    number: u32,
     times: Vec<f64>,
 }
 
@@ -35,16 +39,27 @@ impl Case {
             memories,
             board: vec![0; BOARD],
             answers: vec![0; ANSWER * records.len()],
+            shares: vec![0; SHARE * records.len()],
+            number: 0,
             times: Vec::new(),
         }
     }
 
+    /// The examination alone: the rate of a tariff is looked at behind the last record, and 0 is refused.
+    fn examination(name: &str, records: &[Record], memories: Memories) -> Case {
+        let number = if records.iter().any(Record::faulty) { 7 } else { 8 };
+        Case { number, ..Case::new(name, records, memories) }
+    }
+
     fn round(&mut self) -> Result<(), String> {
         self.board.fill(0);
-        let Case { sheet, board, answers, memories, .. } = self;
-        let (ns, report) = timed(|| memories.run(sheet, board, answers));
-        if report.number != 0 {
-            return Err(format!("refused: {}, {report:?}", self.name));
+        let Case { sheet, board, answers, shares, memories, number, .. } = self;
+        let (ns, given) = match number {
+            0 => timed(|| memories.run(sheet, board, answers).number),
+            _ => timed(|| memories.run_tariff(sheet, board, answers, shares, 0).number),
+        };
+        if given != *number {
+            return Err(format!("gave {given} in place of {number}: {}", self.name));
         }
         self.times.push(ns);
         Ok(())
@@ -85,6 +100,7 @@ pub fn show(rounds: usize) -> Result<Vec<String>, String> {
     let mut growing = idle_values(rounds)?;
     growing.extend(lengths(rounds)?);
     growing.extend(numbers(rounds)?);
+    growing.extend(examinations(rounds)?);
     Ok(growing)
 }
 
@@ -147,4 +163,20 @@ fn numbers(rounds: usize) -> Result<Vec<String>, String> {
     println!("{name:<44} {:>7} {:7.2} ({low:6.2}–{high:6.2}) {:>6} {ratio:6.2}", "", added.median(), "");
     growing.extend((ratio > MOST).then_some(name));
     Ok(growing)
+}
+
+/// Mixed records without a fault, and with one in the last record: its zero byte, which no kind uses.
+fn examinations(rounds: usize) -> Result<Vec<String>, String> {
+    let memories = Memories::random(11, SIZES, BIOS_SIZE, sheets::ROM_LEN);
+    let records = sheets::mixed(sheets::RECORDS, 0);
+    let mut faulty = records.clone();
+    faulty[sheets::RECORDS - 1].zero = 1;
+    let case = |name: &str, records: &[Record]| Case::examination(name, records, memories.clone());
+    let mut cases = vec![
+        case(&format!("examination of {PIECE}, no fault"), &records[..PIECE]),
+        case(&format!("examination of {}, no fault", sheets::RECORDS), &records),
+        case(&format!("examination of {}, the last one faulty", sheets::RECORDS), &faulty),
+    ];
+    time(&mut cases, rounds)?;
+    Ok(tell_all(&cases, 0))
 }
