@@ -109,9 +109,9 @@ value-most true false n h = address-most true n h
 value-most false half zero h = sym (or-true (not half))
 value-most false half (suc n) h = rw (leb·suc-zero n, eqb·suc-zero n)
 
-either-fault : (a b : Bool) → not (a && b) ≡ not a || not b
-either-fault true b = refl
-either-fault false b = refl
+not-and : (a b : Bool) → not (a && b) ≡ not a || not b
+not-and true b = refl
+not-and false b = refl
 
 -- the code's test of a record by a row, `flags` being the flag and the zero byte in one number
 abbrev pub breaks : SheetRecord → ℕ → List ℕ → Bool
@@ -138,4 +138,4 @@ row-fault r ha hv hk hs e =
       address-most (usesAddress k) (r .address) ha,
       value-most (usesValue k) (eqb k 3) (r .value) hv,
     )
-    (simp (and-assoc, either-fault, or-assoc))
+    (simp (and-assoc, not-and, or-assoc))

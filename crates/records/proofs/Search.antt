@@ -28,8 +28,8 @@ module _ {s : List ℕ} {n : ℕ} where
     -- what is left is one record and the others
     here : leastFaulty (recordsFrom s 0 n) ≡ n - left + leastFaulty (recordsFrom s (n - left) (suc (left - 1)))
     here =
-        g .sought .same
-        ∙ ap (λ (m : ℕ). n - left + leastFaulty (recordsFrom s (n - left) m)) {x = left} {y = suc (left - 1)} (omega (arith, g .more))
+        let one : left ≡ suc (left - 1) = omega (arith, g .more) in
+        g .sought .same ∙ ap (λ (m : ℕ). n - left + leastFaulty (recordsFrom s (n - left) m)) one
 
     pub found : t ≡ true → n - left ≡ leastFaulty (recordsFrom s 0 n)
     unfolding firstOf recordsFrom
