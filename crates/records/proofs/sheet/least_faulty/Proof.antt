@@ -67,23 +67,24 @@ shr-fits c = omega (arith, size≤4 (c .before .before .before))
 abbrev tested : tie.After-struct-known6 Inv-loop μ-loop → tie.Else1 Inv-loop μ-loop
 tested c = c .before .before .before .before .before .before
 
-fault : (c : tie.After-struct-known6 Inv-loop μ-loop)
-    → (let r = read (tested c) .record-at .result in
-    breaks r (c .before .before .half .result) (getD kindRows (r .kind) []) ≡ faulty r)
-fault c =
-    row-fault (read (tested c) .record-at .result) (omega arith) (omega arith)
-    (kind≤9 (tested c)) (size≤4 (tested c)) (c .before .before .half .ensures)
+judged : (c : tie.After-struct-known6 Inv-loop μ-loop)
+    → (let here = read (tested c) in
+    let a = entry (loop here) .args in
+    let r = here .record-at .result in
+    Looked (a .sheet .now) (a .n) (loop here .loop .left)
+    (breaks r (c .before .before .half .result) (getD kindRows (r .kind) [])))
+judged c =
+    looked (read (tested c)) _
+    (row-fault (read (tested c) .record-at .result) (omega arith) (omega arith)
+    (kind≤9 (tested c)) (size≤4 (tested c)) (c .before .before .half .ensures))
 
 returns-2 : tie.Need-returns-2 Inv-loop μ-loop
 unfolding sizeFits limitsFrom
-returns-2 c = found (looked (read (tested (c .before))) _ (fault (c .before))) (c .if2 .taken)
+returns-2 c = found (judged (c .before)) (c .if2 .taken)
 
 loop-again : tie.Need-loop-again Inv-loop μ-loop
 unfolding sizeFits limitsFrom
-loop-again c = passed (looked (read (tested (c .before))) _ (fault (c .before))) (c .if2 .left)
-
-more : (c : tie.Else2 Inv-loop μ-loop) → 1 ≤ loop (read (tested (c .before))) .loop .left
-more c = omega (arith, read (tested (c .before)) .before .loop-test .taken)
+loop-again c = passed (judged (c .before)) (c .if2 .left)
 
 returns-3 : tie.Need-returns-3 Inv-loop μ-loop
 returns-3 c = all-sought (c .before .loop .inv) (c .loop-test .left)
@@ -93,4 +94,5 @@ least-faulty-spec =
     tie.close
     (tie.spec Inv-loop μ-loop loop-holds (λ c. omega arith) (λ c κs. omega arith) returns (search needs) (search needs)
     array-copy-out-row (search needs) (search needs) shr-fits (search needs) (search needs) (search needs)
-    (search needs) (search needs) returns-2 more (λ c. omega (arith, more c)) loop-again returns-3)
+    (search needs) (search needs) returns-2 (λ c. judged (c .before) .more) (λ c. omega (arith, judged (c .before) .more))
+    loop-again returns-3)
