@@ -33,10 +33,6 @@ bool odd_opcode_address(const struct seen *s) {
     return s->kind == BTS_INSTRUCTION && s->address % s->size != 0;
 }
 
-static bool begins_block(uint32_t address) {
-    return address % 0x20000 == 0;
-}
-
 /* That an opcode pays for its own fetch, and not for that of the opcode two further on, is seen where one of the two begins a
  * block of ROM. */
 bool own_fetch(const struct seen *s) {

@@ -256,10 +256,17 @@ bool no_mode(const struct seen *s) {
 
 /* ---- prices, and the prefetch beside them */
 
-/* Only in ROM does a sequential access cost less. */
+/* It goes on where the previous access ended, and begins no block. Only in ROM is that another price. */
 bool sequential_data(const struct seen *s) {
-    bool follows = s->past.kind == s->kind && s->past.size == 4 && s->past.address + 4 == s->address;
-    return accesses(s) && s->size == 4 && s->area == AT_ROM && follows;
+    uint32_t lowered = s->address & ~(uint32_t)(s->size - 1);
+    bool follows = s->before.previous_size > 0 && s->before.previous_address + s->before.previous_size == lowered;
+    return accesses(s) && s->area == AT_ROM && follows && !begins_block(lowered);
+}
+
+/* A step that is no access stands between the two; or what stood there isn't seen, since the first is the lent board's. Where a
+ * step clears the previous access there is nothing to mark: the next one is nonsequential by the data sheet too. */
+bool row_goes_on(const struct seen *s) {
+    return sequential_data(s) && s->past.kind != BTS_READ && s->past.kind != BTS_WRITE;
 }
 
 bool buffered_data(const struct seen *s) {

@@ -17,6 +17,10 @@ int window_of(uint32_t address) {
     return area_of(address) == AT_ROM ? (int)(address >> 25) - 4 : -1;
 }
 
+bool begins_block(uint32_t address) {
+    return address % 0x20000 == 0;
+}
+
 /* The registers, and the memory control word, which alone is there again every 64 KiB. */
 static bool has_io(uint32_t address) {
     uint32_t offset = address & 0xFFFF;

@@ -14,6 +14,9 @@ enum area area_of(uint32_t address);
 /* The ROM window of an address, from 0; -1 outside. */
 int window_of(uint32_t address);
 
+/* Whether a block of 128 KiB begins at an address: in ROM nothing is sequential there. */
+bool begins_block(uint32_t address);
+
 /* A byte of a memory at its physical size; a memory that is lent short may end before it. */
 struct place {
     size_t memory; /* as store.h numbers them */

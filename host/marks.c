@@ -39,7 +39,7 @@ static const struct mark marks[] = {
     {22, odd_opcode_address, "a misaligned opcode address is priced as given"},
     {23, video_conflict, "the display never delays an access"},
     {24, store_past_sram, "a store past the SRAM is dropped, not mirrored"},
-    {25, sequential_data, "every data access is nonsequential"},
+    {25, sequential_data, "a data access to ROM that goes on where the one before it ended is sequential, whatever the opcodes"},
     {26, buffered_data, "a data access never looks into the prefetch"},
     {27, data_fills_nothing, "the prefetch gains nothing while data are loaded or stored"},
     {28, own_fetch, "an opcode pays for its own fetch, not for the one two further on"},
@@ -94,6 +94,7 @@ static const struct mark marks[] = {
     {81, past_memory, "past the end of a memory that is lent short loads give 0, and stores are dropped"},
     {82, no_mode, "without I/O the display mode is 0"},
     {83, waitcnt_bit_15, "WAITCNT bit 15 stays as the board has it"},
+    {86, row_goes_on, "a row of data accesses goes on over IDLE, PC and LATCH, and from the lent board"},
 };
 
 enum { MARKS = sizeof marks / sizeof marks[0] };

@@ -30,7 +30,7 @@ static const struct option {
     {"--bios", NULL, A_FILE, offsetof(struct options, bios), "the BIOS image; without it, none"},
     {"--sram", NULL, A_FILE, offsetof(struct options, sram), "the backup memory, as long as the file; without it, zeros"},
     {"--store", NULL, A_FILE, offsetof(struct options, store), "all memories as --store-out wrote them; without it, zeros"},
-    {"--board", NULL, A_FILE, offsetof(struct options, board), "a saved board to start from; without it, a fresh one"},
+    {"--board", NULL, A_FILE, offsetof(struct options, board), "a saved board (80 bytes) to start from; without it, a fresh one"},
     {"--bench", NULL, FLAG, offsetof(struct options, bench), "memories of the sizes of document 01's program"},
     {"--full", NULL, FLAG, offsetof(struct options, full), "memories of the physical sizes, as they are without it"},
     {"--sheet", NULL, A_FILE_OR_STDIN, offsetof(struct options, sheet),
@@ -200,6 +200,9 @@ void print_help(void) {
           "  count   halfwords that stand in the prefetch after the step\n"
           "  force   1: the next opcode fetch is nonsequential\n"
           "\n"
+          "A READ or WRITE in ROM that goes on where the READ or WRITE before it ended is sequential, but for the beginning of a "
+          "block\nof 0x20000 bytes; any other is nonsequential in its first halfword. IDLE, PC and LATCH may stand between the "
+          "two; THUMB,\nARM, FETCH, RESTART and WAITCNT end such a row.\n"
           "The table of -v has the step too, the sum of the cycles up to it, and the lines of docs/DIFFERENCES.md that touch "
           "it.\n"
           "With --rate the charge stands behind the total: total * rate / 1000000 cents, rounded up to the cent and shown as "

@@ -54,6 +54,8 @@ static struct state state_of(const struct trace *trace) {
         .head_address = bts_board_head_address(board),
         .pc = bts_board_pc(board),
         .latch = bts_board_latch(board),
+        .previous_address = bts_board_previous_address(board),
+        .previous_size = bts_board_previous_size(board),
         .mode = io_number(trace, 0, 1) & 7,
         .stored_waits = io_number(trace, STORED_WAITS, 2),
         .control = io_number(trace, CONTROL, 4),
@@ -116,8 +118,6 @@ static void take_record(struct seen *seen, const uint8_t *record, bts_answer ans
 /* What the next step has behind it. */
 static void go_on(struct past *past, const struct seen *seen) {
     past->kind = seen->kind;
-    past->size = seen->size;
-    past->address = seen->address;
     if (seen->kind == BTS_INSTRUCTION) {
         past->any_opcode = true;
         past->opcode_jumped = seen->jumps;

@@ -25,7 +25,7 @@ struct state {
     uint32_t waitcnt;
     bool on; /* the prefetch switch */
     bool force, filling, first_beat;
-    uint32_t count, wait_left, next_address, head_address, pc, latch;
+    uint32_t count, wait_left, next_address, head_address, pc, latch, previous_address, previous_size;
     uint32_t mode;         /* the display mode */
     uint32_t stored_waits; /* what stands at 0x04000204 */
     uint32_t control;      /* what stands at 0x04000800 */
@@ -33,8 +33,7 @@ struct state {
 
 /* What went before a step in this run. */
 struct past {
-    uint8_t kind, size; /* of the step before this one; 0 where there is none */
-    uint32_t address;
+    uint8_t kind;    /* of the step before this one; 0 where there is none */
     bool any_opcode; /* an INSTRUCTION stands somewhere before this one; the last: */
     bool opcode_jumped;
     uint32_t opcode_address;

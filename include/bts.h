@@ -31,10 +31,11 @@
 #endif
 
 /* The version of this header with its library: MAJOR rises when a caller must change, MINOR when something is added. (The version
- * of a sheet is BTS_VERSION.) */
-#define BTS_LIBRARY_MAJOR 1
-#define BTS_LIBRARY_MINOR 2
-#define BTS_LIBRARY_VERSION "1.2"
+ * of a sheet is BTS_VERSION.) With 2.0 a board grew from 72 bytes to 80: build anew what lends one, and see "the board" below for
+ * those that were saved before. */
+#define BTS_LIBRARY_MAJOR 2
+#define BTS_LIBRARY_MINOR 0
+#define BTS_LIBRARY_VERSION "2.0"
 
 #include <stddef.h>
 #include <stdint.h>
@@ -97,7 +98,7 @@ static inline const char *const *bts_refusal_row(uint32_t number) {
         {"BTS_BAD_VERSION", "the sheet's version is not 1"},
         {"BTS_BAD_SHAPE", "the sheet's byte 5 is not 0, it has over 4096 records, or its length is not 8 + 12 a record"},
         {"BTS_BAD_LENGTHS", "a memory is longer than its physical size, or the seven lengths don't add up to the store's"},
-        {"BTS_UNSOUND_BOARD", "the board is not 72 bytes or not sound"},
+        {"BTS_UNSOUND_BOARD", "the board is not 80 bytes or not sound"},
         {"BTS_SHORT_ANSWERS", "the answers are shorter than 12 bytes a record, or the shares of a tariff shorter than 8"},
         {"BTS_FAULTY_RECORD", "the record breaks the layout of a record or the table of kinds"},
         {"BTS_BAD_RATE", "the rate is 0 or over 1000000 cents per million cycles"},
@@ -123,7 +124,7 @@ enum {
     BTS_RECORD_SIZE = 12,
     BTS_MOST_RECORDS = 4096,
     BTS_MOST_SHEET = BTS_HEADER_SIZE + BTS_RECORD_SIZE * BTS_MOST_RECORDS, /* the longest sheet */
-    BTS_BOARD_SIZE = 72,
+    BTS_BOARD_SIZE = 80,
     BTS_ANSWER_SIZE = 12,
     BTS_SHARE_SIZE = 8
 };
@@ -163,30 +164,46 @@ enum {
 
 /* ---- the board
  *
- * A fresh board is BTS_BOARD_SIZE zero bytes. The places of its fields, each of which has a reader among the helpers below: */
+ * A fresh board is BTS_BOARD_SIZE zero bytes.
+ *
+ * A board that was saved before version 2.0 has 72 bytes, and is refused (BTS_UNSOUND_BOARD). Append eight zero bytes: it is then
+ * the same board, without a previous data access.
+ *
+ * The places of its fields, each of which has a reader among the helpers below: */
 
 enum {
-    BTS_BOARD_WAITCNT = 0,       /* 2 bytes */
-    BTS_BOARD_FORCE = 2,         /* 1: the next opcode fetch is nonsequential */
-    BTS_BOARD_HEAD = 3,          /* the prefetch: place of its first halfword among the eight */
-    BTS_BOARD_COUNT = 4,         /* how many stand */
-    BTS_BOARD_FILLING = 5,       /* 1: another is on its way */
-    BTS_BOARD_FIRST_BEAT = 6,    /* 1: the next to be started is priced as the first since a restart */
+    BTS_BOARD_WAITCNT = 0,           /* 2 bytes */
+    BTS_BOARD_FORCE = 2,             /* 1: the next opcode fetch is nonsequential */
+    BTS_BOARD_HEAD = 3,              /* the prefetch: place of its first halfword among the eight */
+    BTS_BOARD_COUNT = 4,             /* how many stand */
+    BTS_BOARD_FILLING = 5,           /* 1: another is on its way */
+    BTS_BOARD_FIRST_BEAT = 6,        /* 1: the next to be started is priced as the first since a restart */
     /* 7 is zero */
-    BTS_BOARD_WAIT_LEFT = 8,     /* 4 bytes: idle cycles until the one on its way is there, else 0 */
-    BTS_BOARD_NEXT_ADDRESS = 12, /* 4 bytes: of the one on its way, or the next to be started */
-    BTS_BOARD_HEAD_ADDRESS = 16, /* 4 bytes: of the first that stands */
-    BTS_BOARD_HALFWORDS = 20,    /* 8 times 2 bytes */
-    BTS_BOARD_PC = 36,           /* 4 bytes */
-    BTS_BOARD_LATCH = 40,        /* 4 bytes */
-    BTS_BOARD_VRAM_STORES = 44,  /* 8 bytes each: the store counters, which stop at 2^64 - 1 */
+    BTS_BOARD_WAIT_LEFT = 8,         /* 4 bytes: idle cycles until the one on its way is there, else 0 */
+    BTS_BOARD_NEXT_ADDRESS = 12,     /* 4 bytes: of the one on its way, or the next to be started */
+    BTS_BOARD_HEAD_ADDRESS = 16,     /* 4 bytes: of the first that stands */
+    BTS_BOARD_HALFWORDS = 20,        /* 8 times 2 bytes */
+    BTS_BOARD_PC = 36,               /* 4 bytes */
+    BTS_BOARD_LATCH = 40,            /* 4 bytes */
+    BTS_BOARD_VRAM_STORES = 44,      /* 8 bytes each: the store counters, which stop at 2^64 - 1 */
     BTS_BOARD_OAM_STORES = 52,
-    BTS_BOARD_PALETTE_STORES = 60
-    /* 68-71 are zero */
+    BTS_BOARD_PALETTE_STORES = 60,
+    BTS_BOARD_PREVIOUS_ADDRESS = 68, /* 4 bytes: of the previous data access, lowered to a multiple of its size; 0 for none */
+    BTS_BOARD_PREVIOUS_SIZE = 72     /* its size, 1, 2 or 4; 0 for none */
+    /* 73-79 are zero */
 };
 
+/* What a READ or WRITE in a ROM window costs follows from the previous data access. One that goes on where the previous one ended
+ * is sequential from its first halfword on, unless its address is a multiple of 0x20000; any other is nonsequential in its first
+ * halfword. The second halfword of a word is always sequential. Both addresses are lowered to a multiple of their size for this,
+ * and it makes no difference which of the two reads and which writes.
+ *
+ * The previous access is the last READ or WRITE, wherever it went and whatever of it landed. IDLE, PC and LATCH leave it alone;
+ * INSTRUCTION, FETCH, RESTART and WAITCNT clear it. It stands on the board, so a sheet goes on with it where another ended. */
+
 /* A board is sound when all of these hold:
- *   - bytes 7 and 68-71 are 0; force, filling and first beat are 0 or 1; WAITCNT bit 13 is clear;
+ *   - bytes 7 and 73-79 are 0; force, filling and first beat are 0 or 1; WAITCNT bit 13 is clear;
+ *   - previous size is 0, 1, 2 or 4; with 0, previous address is 0; else it is a multiple of previous size;
  *   - head is at most 7, count at most 8, wait left at most 9, and next address is even;
  *   - filling is 1 exactly when wait left is at least 1, and then count is at most 7 and next address lies in a ROM window;
  *   - with count 0, head address is 0; else head address and next address - 2 lie in ROM windows, and
@@ -342,6 +359,8 @@ static inline uint32_t bts_board_latch(const uint8_t *board) { return bts_get32(
 static inline uint64_t bts_board_vram_stores(const uint8_t *board) { return bts_get64(board + BTS_BOARD_VRAM_STORES); }
 static inline uint64_t bts_board_oam_stores(const uint8_t *board) { return bts_get64(board + BTS_BOARD_OAM_STORES); }
 static inline uint64_t bts_board_palette_stores(const uint8_t *board) { return bts_get64(board + BTS_BOARD_PALETTE_STORES); }
+static inline uint32_t bts_board_previous_address(const uint8_t *board) { return bts_get32(board + BTS_BOARD_PREVIOUS_ADDRESS); }
+static inline uint8_t bts_board_previous_size(const uint8_t *board) { return board[BTS_BOARD_PREVIOUS_SIZE]; }
 
 /* Place k, from 0 to 7, of the prefetch. Those that stand are the `count` places from `head` on, and from 7 on to 0. */
 static inline uint16_t bts_board_halfword(const uint8_t *board, size_t k) {

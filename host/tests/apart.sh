@@ -9,7 +9,7 @@ make_names() {
     ln -s a.lst "$files/soft.lst"
     ln -s files "$work/way"
     printf 'image' >"$files/image"
-    zeros "$files/board" 72
+    zeros "$files/board" 80
     cp crates/bench/stdin "$files/sheet"
 }
 
@@ -61,7 +61,7 @@ pair_checks() {
     mkdir "$files/folder"
     good "one name in two folders" -o "$files/new" --board-out "$files/folder/new" $here/bench.lst
     check "one is the sheet" cmp -s "$files/new" crates/bench/stdin
-    check "the other is the board" is "$(wc -c <"$files/folder/new" | tr -d ' ')" 72
+    check "the other is the board" is "$(wc -c <"$files/folder/new" | tr -d ' ')" 80
 }
 
 # An output may take the place of its own input, by any name; and a temporary that was left behind is told with what to do.

@@ -27,12 +27,22 @@ static uint32_t some_address(void) {
     return choices[below(3)];
 }
 
+/* A previous access, at a multiple of its size; or none, on a board that has none. */
+static void put_previous(uint8_t *board) {
+    uint32_t size = 1u << below(3);
+    if (below(4) > 0) {
+        bts_put32(board + BTS_BOARD_PREVIOUS_ADDRESS, some_address() & ~(size - 1));
+        board[BTS_BOARD_PREVIOUS_SIZE] = (uint8_t)size;
+    }
+}
+
 /* A sound board, all kinds of them. */
 static void make_sound(uint8_t *board) {
     memset(board, 0, BTS_BOARD_SIZE);
-    for (size_t i = BTS_BOARD_HALFWORDS; i < 68; i++) {
+    for (size_t i = BTS_BOARD_HALFWORDS; i < BTS_BOARD_PREVIOUS_ADDRESS; i++) {
         board[i] = (uint8_t)below(256);
     }
+    put_previous(board);
     board[0] = (uint8_t)below(256);
     board[1] = (uint8_t)(below(256) & 0x9F);
     board[BTS_BOARD_FORCE] = (uint8_t)below(2);
@@ -53,12 +63,15 @@ static void make_sound(uint8_t *board) {
 /* One thing of the board changed, to a value that may break a rule or not. */
 static void change(uint8_t *board) {
     uint32_t next = some_address();
-    switch (below(6)) {
+    switch (below(9)) {
     case 0: board[below(BTS_BOARD_HALFWORDS)] ^= (uint8_t)(1u << below(8)); break;
-    case 1: board[below(2) == 0 ? 7 : 68 + below(4)] = (uint8_t)below(2); break;
+    case 1: board[below(2) == 0 ? 7 : 73 + below(7)] = (uint8_t)below(2); break;
     case 2: board[2 + below(5)] = (uint8_t)below(11); break;
     case 3: bts_put32(board + BTS_BOARD_WAIT_LEFT, below(12)); break;
     case 4: bts_put32(board + BTS_BOARD_NEXT_ADDRESS + 4 * below(2), next); break;
+    case 5: board[BTS_BOARD_PREVIOUS_SIZE] = (uint8_t)below(below(2) == 0 ? 256 : 6); break;
+    case 6: bts_put32(board + BTS_BOARD_PREVIOUS_ADDRESS, below(4) == 0 ? below(5) : next); break;
+    case 7: board[68 + below(12)] ^= (uint8_t)(1u << below(8)); break;
     default: /* both addresses, in step */
         bts_put32(board + BTS_BOARD_NEXT_ADDRESS, next);
         bts_put32(board + BTS_BOARD_HEAD_ADDRESS, next - 2u * bts_board_count(board));
@@ -92,11 +105,16 @@ static void print_answers(void) {
     }
 }
 
+/* Mostly the right one; else any up to a byte more, or that of older boards. */
+static size_t some_length(void) {
+    return below(1000) > 0 ? BTS_BOARD_SIZE : below(4) == 0 ? 72 : below(BTS_BOARD_SIZE + 2);
+}
+
 int main(void) {
     unsigned long differ = 0;
     for (unsigned long i = 0; i < BOARDS; i++) {
         uint8_t board[BTS_BOARD_SIZE + 1] = {0};
-        size_t len = below(1000) == 0 ? below(BTS_BOARD_SIZE + 2) : BTS_BOARD_SIZE;
+        size_t len = some_length();
         make_sound(board);
         if (below(5) > 0) {
             change(board);

@@ -57,7 +57,7 @@ bad_stores() {
 # store are the same.
 cut_checks() {
     rm -f "$files"/*
-    for name in steps loop; do
+    for name in steps loop rows; do
         lands $(shorts_in $here/$name.lst) "$name in one" --board-out "$files/board-whole" --store-out "$files/store-whole" \
             $here/$name.lst
         grep -v total "$work/out" | cut -d' ' -f2- >"$work/whole"
@@ -114,7 +114,7 @@ piece_checks() {
     check "its last index" grep -q '^ 9999  ' "$work/out"
     check "its sums run on" sums_run_on "$work/out"
     check "its total" grep -qx "total $total" "$work/out"
-    zeros "$files/board-part" 72
+    zeros "$files/board-part" 80
     good "a store to begin with" --store-out "$files/store-part" /dev/null
     : >"$work/parts"
     for lines in 1,3000p 3001,6000p 6001,10000p; do

@@ -58,7 +58,7 @@ toolchain_checks() {
 
 value_checks() {
     rm -f "$files"/*
-    zeros "$work/board" 72
+    zeros "$work/board" 80
     printf 'abcd' >"$work/image"
     printf 'READ 1 0x08000000\nREAD 1 0\nREAD 1 0x0E000003\n' >"$work/listing"
     good "values behind =" --rom="$work/image" --bios="$work/image" --sram="$work/image" --board="$work/board" \

@@ -1,6 +1,6 @@
 /* include/bts.h by itself, as C and as C++: the README's small sheet made with the header's helpers, over no BIOS and no ROM; the
- * same billed; the names of the refusals; the readers of a board; what lands of stores. The exit status is the number of the
- * first thing that is wrong. */
+ * same billed; the names of the refusals; the readers of a board; what lands of stores; a row of accesses over two runs; the
+ * length of a board. The exit status is the number of the first thing that is wrong. */
 #include "bts.h"
 
 #include <string.h>
@@ -104,6 +104,42 @@ static int stores(void) {
     return report.number == BTS_OK && agreed == COUNT ? 0 : 12;
 }
 
+/* Two words of ROM, N + S and S + S, and a third by a run of its own on the board that they left: S + S too. */
+static int row_of_accesses(void) {
+    static const uint64_t totals[] = {8 + 6, 6};
+    uint8_t sheet[BTS_HEADER_SIZE + 2 * BTS_RECORD_SIZE], board[BTS_BOARD_SIZE] = {0}, answers[2 * BTS_ANSWER_SIZE];
+    for (uint32_t i = 0; i < 2; i++) {
+        uint32_t records = 2 - i;
+        bts_put_header(sheet, records);
+        for (uint32_t k = 0; k < records; k++) {
+            bts_put_record(sheet, k, BTS_READ, 4, 0, 0x08000100 + 8 * i + 4 * k, 0);
+        }
+        bts_report report = bts_run(sheet, BTS_HEADER_SIZE + BTS_RECORD_SIZE * BTS_CAST(size_t, records), board, sizeof board,
+                                    bts_room(NULL), 0, bts_bytes(NULL), 0, bts_bytes(NULL), 0, answers, sizeof answers, 0, 0, 0,
+                                    0, 0, 0, 0);
+        if (report.number != BTS_OK || report.total != totals[i]) {
+            return 20;
+        }
+    }
+    return bts_board_previous_address(board) == 0x08000108 && bts_board_previous_size(board) == 4 ? 0 : 21;
+}
+
+/* What is said of a board of so many zero bytes. */
+static uint32_t number_for(size_t board_len) {
+    uint8_t sheet[BTS_HEADER_SIZE], board[BTS_BOARD_SIZE] = {0};
+    bts_put_header(sheet, 0);
+    return bts_run(sheet, sizeof sheet, board, board_len, bts_room(NULL), 0, bts_bytes(NULL), 0, bts_bytes(NULL), 0,
+                   bts_room(NULL), 0, 0, 0, 0, 0, 0, 0, 0).number;
+}
+
+/* A board as it was before version 2.0, and the same with eight zero bytes behind it. */
+static int board_lengths(void) {
+    if (number_for(72) != BTS_UNSOUND_BOARD || number_for(72 + 8) != BTS_OK || BTS_BOARD_SIZE != 72 + 8) {
+        return 22;
+    }
+    return strstr(bts_refusal_text(BTS_UNSOUND_BOARD), " 80 bytes ") != NULL ? 0 : 23;
+}
+
 static int names(void) {
     if (strcmp(BTS_LIBRARY_VERSION, TEXT(BTS_LIBRARY_MAJOR) "." TEXT(BTS_LIBRARY_MINOR)) != 0) {
         return 6;
@@ -132,6 +168,9 @@ static int readers(void) {
         bts_board_head_address(b) != 0x93929190 || bts_board_halfword(b, 0) != 0x9594 || bts_board_halfword(b, 7) != 0xA3A2) {
         return 10;
     }
+    if (bts_board_previous_address(b) != 0xC7C6C5C4 || bts_board_previous_size(b) != 0xC8) {
+        return 19;
+    }
     return bts_board_pc(b) == 0xA7A6A5A4 && bts_board_latch(b) == 0xABAAA9A8 && bts_board_vram_stores(b) == 0xB3B2B1B0AFAEADAC &&
                    bts_board_oam_stores(b) == 0xBBBAB9B8B7B6B5B4 && bts_board_palette_stores(b) == 0xC3C2C1C0BFBEBDBC
                ? 0
@@ -139,7 +178,8 @@ static int readers(void) {
 }
 
 int main(void) {
-    int results[] = {refused_run(), accepted_run(), names(), readers(), stores(), billed_run(), layout_of_bill()};
+    int results[] = {refused_run(), accepted_run(),   names(),           readers(),       stores(),
+                     billed_run(),  layout_of_bill(), row_of_accesses(), board_lengths()};
     int first = 0;
     for (size_t i = 0; i < sizeof results / sizeof results[0]; i++) {
         first = first != 0 ? first : results[i];

@@ -32,7 +32,7 @@ board_checks() {
     grep -v '^;' $here/steps.lst | sed 1,2d >"$work/whole"
     lands 1 2 "in one" --board-out "$files/board-whole" --sram-out "$files/sram-whole" "$work/whole"
     grep -v total "$work/out" | cut -d' ' -f2- >"$work/answers"
-    zeros "$files/board" 72
+    zeros "$files/board" 80
     zeros "$files/sram" 65536
     : >"$work/parts"
     for lines in 1,15p '16,$p'; do
@@ -44,11 +44,13 @@ board_checks() {
     check "the answers" cmp -s "$work/parts" "$work/answers"
     check "the board" cmp -s "$files/board" "$files/board-whole"
     check "the SRAM" cmp -s "$files/sram" "$files/sram-whole"
-    check "a board's length" is "$(wc -c <"$files/board" | tr -d ' ')" 72
+    check "a board's length" is "$(wc -c <"$files/board" | tr -d ' ')" 80
     good "a board out" --board-out "$files/board" $here/bench.lst
     # WAITCNT 0x4000; head 1, count 6, filling; one cycle left of the halfword for 0x0800010E; head address 0x08000102
     check "its bytes" is "$(bytes "$files/board" | cut -c1-40)" \
         "0040000106010000010000000e01000802010008"
+    # the halfword at 0x02000000 is the previous access
+    check "its end" is "$(row_on "$files/board")" 000000020200000000000000
 }
 
 every_pass="$every_pass image_checks board_checks"

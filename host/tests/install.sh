@@ -58,8 +58,10 @@ man_checks() {
     check "the steps too" is "$(sed -n '/^\.SH LISTING/,/^\.SH EXIT/s/^\.BI \([A-Z]*\) .*/\1/p' host/btsrun.1 | sort)" \
         "$(sed -n 's/^  \([A-Z][A-Z]*\)  *[A-Z]\{4,\}.*/\1/p' "$work/out" | sort)"
     check "the version" grep -q "^\.TH .*\"bts $(header_version)\"" host/btsrun.1
-    sed -n 's/\\en/\\n/g; s/^\(printf .*\) | btsrun$/\1/p' host/btsrun.1 >"$work/example"
-    check "its example" is "$(sh "$work/example" | $program | tail -n 1)" "total 3"
+    sed -n 's/\\en/\\n/g; s/^\(printf .*\) | btsrun$/\1/p' host/btsrun.1 >"$work/examples"
+    totals=
+    while read -r example; do totals="$totals$(eval "$example" | $program | tail -n 1), "; done <"$work/examples"
+    check "its examples" is "$totals" "total 3, total 14, "
     if command -v mandoc >"$work/out"; then
         check "mandoc" mandoc -T lint -W warning host/btsrun.1
     elif command -v man >"$work/out"; then

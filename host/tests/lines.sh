@@ -16,9 +16,9 @@ bench_checks() {
     check "over document 01's memories" cmp -s "$work/out" crates/bench/stdout
 }
 
-# LISTING: how many of its stores land short, and how many it has. What lands short in bench.lst, loop.lst and steps.lst is a
-# halfword to SRAM.
-shorts_in() { echo "$(grep -ci '^write 2 0x0e' "$1") $(grep -ci '^write' "$1")"; }
+# LISTING: how many of its stores land short, and how many it has. What lands short in bench.lst, loop.lst, steps.lst and rows.lst
+# is a halfword to SRAM, or a store to ROM.
+shorts_in() { echo "$(grep -ciE '^write (2 0x0e|[124] 0x08)' "$1") $(grep -ci '^write' "$1")"; }
 
 listing_checks() {
     for name in loop steps; do

@@ -13,16 +13,16 @@ refusal_checks() {
     good "run again" --sheet "$work/longest"
     printf x >>"$work/longest"
     bad "a sheet too long" 1 "refused 3 (BTS_BAD_SHAPE) at record 0" $outputs --sheet "$work/longest"
-    for length in 0 71 73; do
+    for length in 0 71 72 73 79 81; do
         zeros "$work/board" $length
         bad "refusal 5 by length $length" 1 "refused 5 (BTS_UNSOUND_BOARD) at record 0" $outputs --board "$work/board" \
             $here/bench.lst
-        check "its rule" says "$work/board: a board is 72 bytes long"
+        check "its rule" says "$work/board: a board is 80 bytes long"
     done
-    zeros "$work/board" 71
+    zeros "$work/board" 79
     printf '\001' >>"$work/board"
     bad "refusal 5 by a byte" 1 "refused 5 (BTS_UNSOUND_BOARD) at record 0" $outputs --board "$work/board" $here/bench.lst
-    check "its rule" says "$work/board: bytes 7 and 68 to 71 must be 0"
+    check "its rule" says "$work/board: bytes 7 and 73 to 79 must be 0"
     hex_file "$work/sheet" 42 54 53 01 00 00 02 00  04 00 00 00 00 00 00 00 1B 00 00 00  07 03 00 00 00 01 00 08 00 1C 00 00
     bad "refusal 7" 1 "refused 7 (BTS_FAULTY_RECORD) at record 1" $outputs --sheet "$work/sheet"
     check "its bytes" says "the bytes of record 1: 07 03 00 00 00 01 00 08 00 1C 00 00"

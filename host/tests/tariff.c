@@ -68,7 +68,16 @@ static void put_any_record(size_t k) {
                    valued || kind == BTS_WAITCNT ? value : 0);
 }
 
-/* `steps` records and a fresh board, over short memories; answers and shares have room for them and at most BEYOND bytes more. */
+/* A fresh board, or one with a word of ROM as its previous access. */
+static void make_board(void) {
+    memset(lent.board, 0, sizeof lent.board);
+    if (below(2) == 0) {
+        bts_put32(lent.board + BTS_BOARD_PREVIOUS_ADDRESS, 0x08000000 + 4 * below(0x300 / 4));
+        lent.board[BTS_BOARD_PREVIOUS_SIZE] = 4;
+    }
+}
+
+/* `steps` records and a board, over short memories; answers and shares have room for them and at most BEYOND bytes more. */
 static void lend(size_t steps) {
     const size_t lengths[7] = {300, 200, 260, 40, 100, 40, 60};
     lent.steps = steps;
@@ -76,7 +85,7 @@ static void lend(size_t steps) {
     lent.answers_len = BTS_ANSWER_SIZE * steps + below(BEYOND + 1);
     lent.shares_len = BTS_SHARE_SIZE * steps + below(BEYOND + 1);
     memcpy(lent.lengths, lengths, sizeof lengths);
-    memset(lent.board, 0, sizeof lent.board);
+    make_board();
     fill(lent.store, sizeof lent.store);
     fill(lent.bios, sizeof lent.bios);
     fill(lent.rom, sizeof lent.rom);
@@ -166,7 +175,7 @@ static void check_alike(void) {
         fill(lent.store, sizeof lent.store);
         fill(lent.rom, sizeof lent.rom);
         fill(lent.board + BTS_BOARD_HALFWORDS, BTS_BOARD_PC - BTS_BOARD_HALFWORDS);
-        fill(lent.board + BTS_BOARD_LATCH, 68 - BTS_BOARD_LATCH);
+        fill(lent.board + BTS_BOARD_LATCH, BTS_BOARD_PREVIOUS_ADDRESS - BTS_BOARD_LATCH);
         for (size_t k = 0; k < STEPS; k++) {
             uint8_t *record = lent.sheet + BTS_HEADER_SIZE + BTS_RECORD_SIZE * k;
             if (record[0] == BTS_WRITE || record[0] == BTS_LATCH) {

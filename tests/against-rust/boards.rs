@@ -9,6 +9,13 @@ pub const CODE_EDGES: [u32; 14] = [
     0x0A02_0000, 0x0BFF_FFF0, 0x0C00_0000, 0x0C02_0000, 0x0DFE_0000, 0x0DFF_FFF0, 0x0E00_0000,
 ];
 
+/// Where a row of data accesses may break off or go on (W-204): inside a block of each window, at the edges of blocks and of
+/// windows, at the ends of SRAM and of all addresses, and where EWRAM begins.
+pub const ROW_EDGES: [u32; 16] = [
+    0x0800_0000, 0x0800_0100, 0x0802_0000, 0x0900_0000, 0x09FE_0000, 0x0A00_0000, 0x0A00_0100, 0x0A02_0000,
+    0x0C00_0000, 0x0C00_0100, 0x0C02_0000, 0x0DFE_0000, 0x0E00_0000, 0x1000_0000, 0x0000_0000, 0x0200_0000,
+];
+
 /// Anything a board's next address may be when nothing stands and nothing fills.
 const LOOSE_NEXT: [u32; 8] = [
     0, 2, 0x07FF_FFFE, 0x0800_0000, 0x0DFF_FFFE, 0x0E00_0000, 0x0300_0000, 0xFFFF_FFFE,
@@ -26,6 +33,7 @@ pub fn any_sound(rng: &mut Rng) -> Board {
 
 /// What soundness says nothing about, and WAITCNT with bit 14 clear.
 fn off(rng: &mut Rng) -> Board {
+    let (prev_addr, prev_size) = if rng.percent(35) { (0, 0) } else { previous(rng) };
     Board {
         waitcnt: rng.u32() as u16 & 0x9FFF & if rng.percent(75) { 0x7FFF } else { 0xFFFF },
         force: rng.below(2) as u8,
@@ -35,8 +43,23 @@ fn off(rng: &mut Rng) -> Board {
         vram: counter(rng),
         oam: counter(rng),
         palette: counter(rng),
+        prev_addr,
+        prev_size,
         ..Board::default()
     }
+}
+
+/// A previous data access: its address as lowered, and its size.
+fn previous(rng: &mut Rng) -> (u32, u8) {
+    let size = rng.pick(&[1, 2, 4]);
+    let address = if rng.percent(85) { row_place(rng) } else { rng.u32() };
+    (lowered(address, size), size)
+}
+
+/// Near a place where a row of accesses may break off, more often below it than above.
+pub fn row_place(rng: &mut Rng) -> u32 {
+    let edge = rng.pick(&ROW_EDGES);
+    rng.near(edge, 12, 8)
 }
 
 fn on(rng: &mut Rng) -> Board {
@@ -113,20 +136,58 @@ pub fn unreached() -> Vec<Board> {
     boards
 }
 
+/// Sound boards with a previous data access of each size: inside a block, before and at its edge, and before addresses wrap.
+pub fn accessed() -> Vec<Board> {
+    let filling = Board { waitcnt: 0x4240, filling: 1, wait_left: 4, next: 0x0A00_0000, ..Board::default() };
+    let boards = vec![
+        Board { prev_size: 1, prev_addr: 0x0800_0103, ..Board::default() },
+        Board { prev_size: 2, prev_addr: 0x0A01_FFFE, ..filling },
+        Board { prev_size: 4, prev_addr: 0x0C02_0000, ..filling },
+        Board { prev_size: 4, prev_addr: 0xFFFF_FFFC, waitcnt: 0x8000, ..Board::default() },
+    ];
+    assert!(boards.iter().all(Board::sound));
+    boards
+}
+
+/// Boards that are sound but for the previous access or the zero bytes behind it, each by one field: a size that none has, an
+/// address that is no multiple of the size, an address without an access, and each of the bytes 73 to 79.
+pub fn previous_wrong() -> Vec<Board> {
+    let board = Board { prev_addr: 0x0800_0100, prev_size: 4, ..Board::default() };
+    let mut boards = Vec::new();
+    boards.extend([3, 5, 6, 7, 8, 16, 128, 252, 255].map(|prev_size| Board { prev_size, ..board }));
+    boards.extend([3, 5, 8, 255].map(|prev_size| Board { prev_size, prev_addr: 0, ..board }));
+    boards.extend([(2, 1), (2, 3), (4, 1), (4, 2), (4, 3)].map(|(prev_size, by)| {
+        Board { prev_size, prev_addr: board.prev_addr + by, ..board }
+    }));
+    boards.extend([1, 2, 4, 0x0800_0100, 0x8000_0000, 0xFFFF_FFFC].map(|prev_addr| {
+        Board { prev_size: 0, prev_addr, ..board }
+    }));
+    for i in 0..7 {
+        boards.extend([board, Board::default()].map(|board| Board { zeros_73: one_set(i, 1 << i), ..board }));
+    }
+    assert!(!boards.iter().any(Board::sound));
+    boards
+}
+
+/// The bytes 73 to 79 with one of them set.
+fn one_set(which: usize, byte: u8) -> [u8; 7] {
+    std::array::from_fn(|i| if i == which { byte } else { 0 })
+}
+
 /// A board that isn't sound, by one field or a few that belong together.
 pub fn unsound(rng: &mut Rng) -> Board {
     let way = rng.below(WAYS_TO_BREAK);
     broken(rng, way)
 }
 
-pub const WAYS_TO_BREAK: usize = 17;
+pub const WAYS_TO_BREAK: usize = 20;
 
 /// A sound board broken in one of the ways.
 pub fn broken(rng: &mut Rng, way: usize) -> Board {
     let b = any_sound(rng);
     let broken = match way {
         0 => Board { zero_7: nonzero(rng), ..b },
-        1 => Board { zero_68: 1 << rng.below(32), ..b },
+        1 => Board { zeros_73: one_set(rng.below(7), nonzero(rng)), ..b },
         2 => Board { force: 2 + rng.below(254) as u8, ..b },
         3 => Board { filling: b.filling ^ 1, ..b },
         4 => Board { filling: 2 + rng.below(254) as u8, ..b },
@@ -141,6 +202,9 @@ pub fn broken(rng: &mut Rng, way: usize) -> Board {
         13 => filling_outside(rng, b),
         14 => span_outside(rng, b),
         15 => switched_off(rng, b),
+        16 => Board { prev_size: rng.pick(&[3, 5, 6, 7, 8, 9, 254, 255]), ..b },
+        17 => no_multiple(rng, b),
+        18 => Board { prev_size: 0, prev_addr: 1 << rng.below(32), ..b },
         _ => Board { count: (b.count + 1 + rng.below(7) as u8) % 9, ..b },
     };
     assert!(!broken.sound());
@@ -149,6 +213,13 @@ pub fn broken(rng: &mut Rng, way: usize) -> Board {
 
 fn nonzero(rng: &mut Rng) -> u8 {
     1 + rng.below(255) as u8
+}
+
+/// A previous access of 2 or 4 bytes at an address that is no multiple of that.
+fn no_multiple(rng: &mut Rng, b: Board) -> Board {
+    let prev_size = rng.pick(&[2, 4]);
+    let by = 1 + rng.below(usize::from(prev_size) - 1) as u32;
+    Board { prev_size, prev_addr: lowered(row_place(rng), prev_size) + by, ..b }
 }
 
 fn wait_wrong(rng: &mut Rng, b: Board) -> Board {

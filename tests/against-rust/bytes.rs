@@ -1,4 +1,4 @@
-//! Document 01's byte layouts: sheet, record, answer, board; when a board is sound; and the library's C functions.
+//! The byte layouts of documents 01 and 02: sheet, record, answer, board; when a board is sound; and the library's C functions.
 
 /// What is lent to one run. `lengths` are the seven lengths as given, in the store's order:
 /// EWRAM, IWRAM, I/O, palette, VRAM, OAM, SRAM. Nothing here need be well formed.
@@ -82,7 +82,7 @@ pub const HEADER: usize = 8;
 pub const RECORD: usize = 12;
 pub const ANSWER: usize = 12;
 pub const SHARE: usize = 8;
-pub const BOARD: usize = 72;
+pub const BOARD: usize = 80;
 pub const MOST_RECORDS: usize = 4096;
 
 pub const READ: u8 = 1;
@@ -105,6 +105,11 @@ pub fn u32_at(b: &[u8], at: usize) -> u32 {
 
 pub fn u64_at(b: &[u8], at: usize) -> u64 {
     u64::from(u32_at(b, at)) | u64::from(u32_at(b, at + 4)) << 32
+}
+
+/// An address lowered to a multiple of a size, which is 1, 2 or 4.
+pub fn lowered(address: u32, size: u8) -> u32 {
+    address & !(u32::from(size) - 1)
 }
 
 // ---- store ----
@@ -258,11 +263,14 @@ pub struct Board {
     pub vram: u64,
     pub oam: u64,
     pub palette: u64,
-    pub zero_68: u32,
+    /// The previous data access (document 02, W-204): its address as lowered, and its size, 0 for none.
+    pub prev_addr: u32,
+    pub prev_size: u8,
+    pub zeros_73: [u8; 7],
 }
 
 impl Board {
-    /// The fields of 72 bytes.
+    /// The fields of 80 bytes.
     pub fn of(b: &[u8]) -> Board {
         let mut halfwords = [0; 8];
         for (i, h) in halfwords.iter_mut().enumerate() {
@@ -285,7 +293,9 @@ impl Board {
             vram: u64_at(b, 44),
             oam: u64_at(b, 52),
             palette: u64_at(b, 60),
-            zero_68: u32_at(b, 68),
+            prev_addr: u32_at(b, 68),
+            prev_size: b[72],
+            zeros_73: std::array::from_fn(|i| b[73 + i]),
         }
     }
 
@@ -304,7 +314,9 @@ impl Board {
         b.extend(self.vram.to_le_bytes());
         b.extend(self.oam.to_le_bytes());
         b.extend(self.palette.to_le_bytes());
-        b.extend(self.zero_68.to_le_bytes());
+        b.extend(self.prev_addr.to_le_bytes());
+        b.push(self.prev_size);
+        b.extend(self.zeros_73);
         assert_eq!(b.len(), BOARD);
         b
     }
@@ -313,12 +325,12 @@ impl Board {
         self.waitcnt & 0x4000 != 0
     }
 
-    /// Document 01's rule, clause by clause. Addresses are widened, so nothing here wraps.
+    /// The rule of document 01 and of document 02's W-204, clause by clause. Addresses are widened, so nothing here wraps.
     pub fn sound(&self) -> bool {
         let next = i64::from(self.next);
         let head_addr = i64::from(self.head_addr);
         let filling = self.filling == 1;
-        let zeros = self.zero_7 == 0 && self.zero_68 == 0;
+        let zeros = self.zero_7 == 0 && self.zeros_73 == [0; 7];
         let flags = self.force <= 1 && self.filling <= 1 && self.first_beat <= 1;
         let bit_13 = self.waitcnt & 0x2000 == 0;
         let ranges = self.head <= 7 && self.count <= 8 && self.wait_left <= 9;
@@ -335,7 +347,21 @@ impl Board {
         let nothing = [self.head, self.count, self.filling, self.first_beat] == [0; 4]
             && [self.wait_left, self.next, self.head_addr] == [0; 3];
         let switch = self.prefetch_on() || nothing;
-        zeros && flags && bit_13 && ranges && beat && even && room && span && switch
+        zeros && flags && bit_13 && ranges && beat && even && room && span && switch && self.previous_sound()
+    }
+
+    /// With size 0 there is none, and the address is 0; a size of 1, 2 or 4 divides the address; there is no other.
+    fn previous_sound(&self) -> bool {
+        match self.prev_size {
+            0 => self.prev_addr == 0,
+            1 | 2 | 4 => self.prev_addr % u32::from(self.prev_size) == 0,
+            _ => false,
+        }
+    }
+
+    /// Where the previous access ended, if there was one.
+    pub fn prev_end(&self) -> Option<u32> {
+        (self.prev_size > 0).then(|| self.prev_addr.wrapping_add(self.prev_size.into()))
     }
 }
 

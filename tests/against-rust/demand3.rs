@@ -50,7 +50,7 @@ fn same_landings(first: &Case, second: &Case) -> bool {
 
 /// A WRITE to I/O byte 0, which has the display mode.
 pub fn stores_mode(record: &Record) -> bool {
-    record.kind == WRITE && record.address & !(u32::from(record.size) - 1) == 0x0400_0000
+    record.kind == WRITE && lowered(record.address, record.size) == 0x0400_0000
 }
 
 /// Demand 3's limits: I + A + D ≤ total ≤ 19·I + 18·A + D in an accepted run.

@@ -192,10 +192,12 @@ pub fn accepted(rng: &mut Rng, large: usize) -> Plan {
         1..=6 => rng.below(400),
         _ => rng.below(61),
     };
-    let records = if rng.percent(35) {
-        Steps::new(rng, &memories).code_run(n, &board)
-    } else {
-        Steps::new(rng, &memories).mixed(n)
+    let sort = rng.below(100);
+    let steps = Steps::new(rng, &memories);
+    let records = match sort {
+        0..=29 => steps.code_run(n, &board),
+        30..=54 => steps.rows(n, &board),
+        _ => steps.mixed(n),
     };
     let mut plan = Plan::accepted(board, &memories, &records);
     if rng.percent(40) {
@@ -237,7 +239,7 @@ fn alike_record(rng: &mut Rng, r: Record, keep_mode: bool) -> Record {
     }
 }
 
-/// The board with other bytes 20–35 and 40–67.
+/// The board with other bytes 20–35 and 40–67: the previous access stays, as it must (W-204).
 fn alike_board(rng: &mut Rng, b: Board) -> Board {
     let other = boards::any_sound(rng);
     Board {

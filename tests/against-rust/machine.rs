@@ -1,6 +1,7 @@
 //! Document 01's run, done by calling the unchanged Rust: this is what the library is held against.
 //! The refusals, the order of a step's calls and the data price are document 01's own ("added"); the hits of a WRITE, the
-//! bytes that landed, are document 02's (W-201), and landed.rs has them from the Rust's store.
+//! bytes that landed, are document 02's (W-201), and landed.rs has them from the Rust's store. Which access is the previous one,
+//! and which steps forget it, is document 02's too (W-204); what follows for the price is told by the Rust.
 
 use crate::bytes::*;
 use crate::landed::Probes;
@@ -10,7 +11,7 @@ use graycart::bus::region::{
     VRAM_SIZE,
 };
 pub use graycart::bus::region::{BIOS_SIZE, ROM_WINDOW_SIZE};
-use graycart::bus::wait::{AccessKind, AccessSize, RomWindow, WaitTables};
+use graycart::bus::wait::{classify_access, AccessKind, AccessSize, RomWindow, WaitTables};
 use graycart::bus::{Bus, CpuMem, OpenBusState, PrefetchBuffer, WaitCnt};
 use graycart::cpu::timing::{price_insn, TimingInput};
 use graycart::cpu::IsaState;
@@ -93,11 +94,13 @@ fn lengths_refused(case: &Case) -> bool {
         || sum != case.store.len() as u128
 }
 
-// ---- the machine: the Rust's bus, and its WAITCNT, which the bus doesn't hold ----
+// ---- the machine: the Rust's bus; its WAITCNT and the previous data access, which the bus doesn't hold ----
 
 struct Machine {
     bus: Bus,
     waitcnt: WaitCnt,
+    /// The previous data access: its address as lowered, and its size.
+    previous: Option<(u32, AccessSize)>,
     /// Made at the first WRITE, since many cases have none.
     probes: Option<Probes>,
 }
@@ -128,7 +131,8 @@ impl Machine {
             oam_write_count: board.oam,
             palette_write_count: board.palette,
         };
-        Machine { bus, waitcnt, probes: None }
+        let previous = (board.prev_size > 0).then(|| (board.prev_addr, access_size(board.prev_size)));
+        Machine { bus, waitcnt, previous, probes: None }
     }
 
     fn board(&self) -> Board {
@@ -152,7 +156,9 @@ impl Machine {
             vram: self.bus.vram_write_count,
             oam: self.bus.oam_write_count,
             palette: self.bus.palette_write_count,
-            zero_68: 0,
+            prev_addr: self.previous.map_or(0, |(address, _)| address),
+            prev_size: self.previous.map_or(0, |(_, size)| size.bytes() as u8),
+            zeros_73: [0; 7],
         }
     }
 
@@ -168,11 +174,11 @@ impl Machine {
         match r.kind {
             READ => {
                 value = self.read(r.size, r.address);
-                cycles = self.data_price(r.size, r.address);
+                cycles = self.access(r.size, r.address);
             }
             WRITE => {
                 hits = self.write(r.size, r.address, r.value);
-                cycles = self.data_price(r.size, r.address);
+                cycles = self.access(r.size, r.address);
             }
             WAITCNT => {
                 self.waitcnt.write(r.value as u16);
@@ -182,17 +188,15 @@ impl Machine {
                 self.tick_idle(r.value);
                 cycles = r.value;
             }
-            FETCH => {
-                if let Some(halfword) = self.bus.prefetch.try_fetch_half(r.address) {
-                    value = u32::from(halfword);
-                    hits = 1;
-                }
-            }
+            FETCH => (value, hits) = self.fetch(r.address),
             RESTART => self.bus.prefetch.restart(r.address, self.bus.wait_tables),
             INSTRUCTION => (value, cycles, hits) = self.instruction(r),
             PC => self.bus.cpu_pc = r.address,
             LATCH => self.bus.open_bus.last_bios_opcode = r.value,
             kind => unreachable!("kind {kind} in an accepted sheet"),
+        }
+        if matches!(r.kind, INSTRUCTION | FETCH | RESTART | WAITCNT) {
+            self.previous = None;
         }
         Answer {
             value,
@@ -215,6 +219,14 @@ impl Machine {
     fn write(&mut self, size: u8, address: u32, value: u32) -> u8 {
         let probes = self.probes.get_or_insert_with(|| Probes::of(&self.bus));
         probes.store(&mut self.bus, size, address, value)
+    }
+
+    /// `try_fetch_half`: the halfword, 0 on a miss, and the hits.
+    fn fetch(&mut self, address: u32) -> (u32, u8) {
+        match self.bus.prefetch.try_fetch_half(address) {
+            Some(halfword) => (u32::from(halfword), 1),
+            None => (0, 0),
+        }
     }
 
     /// `tick_idle`, its reader being the bus's halfword read.
@@ -264,26 +276,48 @@ impl Machine {
         hits
     }
 
-    /// Document 01's data price: by the region of the address, every access nonsequential.
-    fn data_price(&self, size: u8, address: u32) -> u32 {
-        let tables = self.bus.wait_tables;
-        if let Some(window) = RomWindow::from_addr(address) {
-            return match size {
-                4 => tables.rom_word_cycles(window, AccessKind::Nonseq),
-                _ => tables.rom_half_cycles(window, AccessKind::Nonseq),
-            };
-        }
-        let size = match size {
-            1 => AccessSize::Byte,
-            2 => AccessSize::Half,
-            _ => AccessSize::Word,
+    /// The price of a data access after the previous one, which it is itself from now on.
+    fn access(&mut self, size: u8, address: u32) -> u32 {
+        let at = lowered(address, size);
+        let size = access_size(size);
+        let kind = match self.previous {
+            Some((prev_addr, prev_size)) => classify_access(prev_addr, prev_size, at, decode(prev_addr) == decode(at)),
+            None => AccessKind::Nonseq,
         };
+        self.previous = Some((at, size));
+        match RomWindow::from_addr(address) {
+            Some(window) => self.rom_price(size, at, window, kind),
+            None => self.plain_price(size, address),
+        }
+    }
+
+    /// W-204's price in ROM, at the lowered address.
+    fn rom_price(&self, size: AccessSize, at: u32, window: RomWindow, kind: AccessKind) -> u32 {
+        let tables = self.bus.wait_tables;
+        let first = tables.rom_half_cycles_at(at, window, kind);
+        match size {
+            AccessSize::Word => first + tables.rom_half_cycles(window, AccessKind::Seq),
+            _ => first,
+        }
+    }
+
+    /// Document 01's data price elsewhere, by the region of the address.
+    fn plain_price(&self, size: AccessSize, address: u32) -> u32 {
+        let tables = self.bus.wait_tables;
         match decode(address) {
             Region::Ewram => tables.ewram_cycles(size),
             Region::Palette | Region::Vram => WaitTables::video_ram_cycles(size),
             Region::GamePakSram => tables.sram_byte_cycles(),
             _ => WaitTables::fixed_fast_cycles(size),
         }
+    }
+}
+
+fn access_size(bytes: u8) -> AccessSize {
+    match bytes {
+        1 => AccessSize::Byte,
+        2 => AccessSize::Half,
+        _ => AccessSize::Word,
     }
 }
 

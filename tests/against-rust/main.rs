@@ -15,6 +15,7 @@ mod machine;
 mod notation;
 mod refusals;
 mod rng;
+mod rows;
 mod sample;
 mod sample_bills;
 mod steps;
@@ -143,6 +144,12 @@ impl Tally {
         }
     }
 
+    fn rows(&mut self) {
+        for (i, (input, claims)) in rows::ROWS.iter().enumerate() {
+            self.line(&format!("row:{i}"), input, claims);
+        }
+    }
+
     fn differences_file(&mut self, path: &str) {
         let text = std::fs::read_to_string(path).map_err(|e| e.to_string());
         match text.and_then(|text| differences::lines_of(&text)) {
@@ -242,7 +249,7 @@ const USAGE: &str = "usage: run [--names] [SECONDS] | SECONDS --from SEED | --ca
 --names: name each case before it is run
 SECONDS: for the random part, 100 if not given
 --from: the random part alone, from this seed on
-NAME: random:SEED (or SEED alone), pair:SEED, bill:SEED, sweep:N, sample:N, figure:N, landing:N, tariff:N, D-N.K";
+NAME: random:SEED (or SEED alone), pair:SEED, bill:SEED, sweep:N, sample:N, figure:N, landing:N, tariff:N, row:N, D-N.K";
 
 fn order(words: &[String]) -> Option<Order> {
     let words: Vec<&str> = words.iter().map(String::as_str).collect();
@@ -281,22 +288,23 @@ fn main() {
 const DIFFERENCES: &str = "docs/DIFFERENCES.md";
 
 fn compare_all(tally: &mut Tally, seconds: u64) {
-    tally.figures();
-    told(tally, &format!("the figures ({} values)", tally.claims));
-    tally.claims = 0;
-    tally.landings();
-    told(tally, &format!("the landings ({} values)", tally.claims));
-    tally.claims = 0;
-    tally.tariffs();
-    told(tally, &format!("the tariffs ({} values)", tally.claims));
-    tally.claims = 0;
-    tally.differences_file(DIFFERENCES);
-    told(tally, &format!("{DIFFERENCES} ({} values)", tally.claims));
+    in_words(tally, "the figures", Tally::figures);
+    in_words(tally, "the landings", Tally::landings);
+    in_words(tally, "the tariffs", Tally::tariffs);
+    in_words(tally, "the rows", Tally::rows);
+    in_words(tally, DIFFERENCES, |tally| tally.differences_file(DIFFERENCES));
     tally.sample();
     told(tally, "the sample");
     tally.sweeps();
     told(tally, "sweeps");
     random_part(tally, seconds, 1);
+}
+
+/// A part whose inputs and values are words.
+fn in_words(tally: &mut Tally, name: &str, part: fn(&mut Tally)) {
+    tally.claims = 0;
+    part(tally);
+    told(tally, &format!("{name} ({} values)", tally.claims));
 }
 
 /// One case in sixteen is a pair, and one is a bill.
@@ -329,6 +337,7 @@ fn one_case(tally: &mut Tally, name: &str) {
         Some(("figure", _)) => tally.figures(),
         Some(("landing", _)) => tally.landings(),
         Some(("tariff", _)) => tally.tariffs(),
+        Some(("row", _)) => tally.rows(),
         _ => tally.differences_file(DIFFERENCES),
     }
 }

@@ -80,6 +80,10 @@ impl Setting {
             [name, "of", length, "byte" | "bytes"] => self.lend(name, vec![0; number(length)? as usize])?,
             ["board", "WAITCNT", value] => self.board.waitcnt = number(value)?.try_into().ok()?,
             ["board", "VRAM", "counter", value] => self.board.vram = number(value)?,
+            ["board", "previous", size, "at", address] => {
+                self.board.prev_size = word(size)?.try_into().ok()?;
+                self.board.prev_addr = word(address)?;
+            }
             ["rate", rate] => self.rate = Some(word(rate)?),
             _ => self.records.push(step(words)?),
         }
@@ -175,6 +179,8 @@ enum Claim {
     VramCounter(u64),
     OamCounter(u64),
     PaletteCounter(u64),
+    /// The previous data access that the run leaves, as size and address; (0, 0) for none.
+    Previous(u64, u64),
     Value(u64),
     /// Those of the last steps.
     Hits(Vec<u64>),
@@ -200,6 +206,8 @@ impl Claim {
             ["VRAM", "counter", v, ..] => (Claim::VramCounter(number(v)?), 3),
             ["OAM", "counter", v, ..] => (Claim::OamCounter(number(v)?), 3),
             ["palette", "counter", v, ..] => (Claim::PaletteCounter(number(v)?), 3),
+            ["previous", "none", ..] => (Claim::Previous(0, 0), 2),
+            ["previous", size, "at", address, ..] => (Claim::Previous(number(size)?, number(address)?), 4),
             ["value", v, ..] => (Claim::Value(number(v)?), 2),
             ["count", v, ..] => (Claim::Count(number(v)?), 2),
             ["flag", v, ..] => (Claim::Flag(number(v)?), 2),
@@ -235,6 +243,8 @@ impl Claim {
             Claim::VramCounter(v) => same("VRAM counter", *v, board.vram),
             Claim::OamCounter(v) => same("OAM counter", *v, board.oam),
             Claim::PaletteCounter(v) => same("palette counter", *v, board.palette),
+            Claim::Previous(size, address) => same("previous size", *size, board.prev_size.into())
+                .and(same("previous address", *address, board.prev_addr.into())),
             Claim::Value(v) => same("value", *v, last()?.value.into()),
             Claim::Hits(list) => same_list("hits", list, &column(|a| a.hits.into())),
             Claim::Count(v) => same("count", *v, last()?.count.into()),

@@ -153,7 +153,7 @@ fn lengths_wrong(rng: &mut Rng, plan: &mut Plan) {
 
 fn board_wrong(rng: &mut Rng, plan: &mut Plan) {
     if rng.percent(25) {
-        plan.board.resize(rng.pick(&[0, 1, 36, 68, 71, 73, 76, 80, 144]), 0);
+        plan.board.resize(rng.pick(&[0, 1, 36, 68, 71, 72, 73, 79, 81, 144]), 0);
     } else {
         plan.board = boards::unsound(rng).bytes();
     }

@@ -1,16 +1,17 @@
 //! A fixed sample of cases with the Rust's answers, for a program that has no Rust at hand.
 //! Contents before a run follow from a fill seed by a rule (`gen::rule_byte`), so the file stays small.
 
-use crate::boards::{self, CODE_EDGES};
+use crate::boards::{self, CODE_EDGES, ROW_EDGES};
 use crate::bytes::*;
 use crate::figures::FIGURES;
 use crate::gen::{Memories, Plan, Rng};
 use crate::machine::{BIOS_SIZE, SIZES};
 use crate::notation;
 use crate::refusals;
+use crate::rows::ROWS;
 use crate::sample_bills;
 use crate::steps::Steps;
-use crate::sweeps::{edge_plan, end_plan, faulty_plan, fill, one_of_each, ENDS};
+use crate::sweeps::{edge_plan, end_plan, faulty_plan, fill, one_of_each, row_plan, ENDS};
 
 /// The most that a case of the sample lends, so that a replaying program can have fixed buffers:
 /// sheet, board, store, BIOS, ROM, answers, shares.
@@ -32,7 +33,10 @@ pub fn plans() -> Vec<Plan> {
     single_boards(&mut plans);
     window_edges(&mut plans);
     fills(&mut plans);
+    row_edges(&mut plans);
+    previous_accesses(&mut plans);
     refused(&mut plans);
+    boards_refused(&mut plans);
     faulty_records(&mut plans);
     fault_order(&mut plans);
     list_lengths(&mut plans);
@@ -55,23 +59,27 @@ pub fn prefetch_on() -> Board {
     Board { waitcnt: 0x4000, ..Board::default() }
 }
 
-/// The lists of steps of document 01's figures, over filled memories.
+/// The lists of steps of document 01's figures and of the rows worked out by hand, over filled memories.
 fn figures(plans: &mut Vec<Plan>) {
-    for (input, _) in FIGURES {
+    for (input, _) in FIGURES.iter().chain(ROWS) {
         let case = notation::case_of(input).unwrap();
         let memories = Memories { lengths: case.lengths, bios: case.bios.len(), rom: case.rom.len() };
         plans.push(Plan::accepted(Board::of(&case.board), &memories, &records_of(&case.sheet)));
     }
 }
 
-/// Random lists of steps over small memories: at any place, then along code.
+/// Random lists of steps over small memories: at any place, then along code, then rows of accesses.
 fn lists(plans: &mut Vec<Plan>) {
-    for seed in 0..120 {
+    for seed in 0..150 {
         let mut rng = Rng::new(seed);
         let memories = Memories::random(&mut rng, 0);
         let board = boards::any_sound(&mut rng);
         let steps = Steps::new(&mut rng, &memories);
-        let records = if seed < 60 { steps.mixed(45) } else { steps.code_run(45, &board) };
+        let records = match seed {
+            0..=59 => steps.mixed(45),
+            60..=119 => steps.code_run(45, &board),
+            _ => steps.rows(45, &board),
+        };
         let mut plan = Plan::accepted(board, &memories, &records);
         plan.answers_len += rng.below(14);
         plans.push(plan);
@@ -121,7 +129,30 @@ fn fills(plans: &mut Vec<Plan>) {
     }
 }
 
-/// Each refusal alone, each two of them, unsound boards, boards of other lengths, random damage.
+/// WAITCNT values for rows (W-204): by either, S and N differ in each window. By the first S is the dearer in two of them.
+const N_NOT_S: [u16; 2] = [0x0240, 0x0490];
+
+/// Each two accesses around each edge, the first of one size.
+fn row_edges(plans: &mut Vec<Plan>) {
+    for (i, edge) in ROW_EDGES.into_iter().enumerate() {
+        plans.push(row_plan(N_NOT_S[i % 2], edge, [1, 2, 4][i % 3], 3));
+    }
+}
+
+/// Boards whose previous access ends at an edge, with a row behind it.
+fn previous_accesses(plans: &mut Vec<Plan>) {
+    for (i, edge) in ROW_EDGES.into_iter().enumerate() {
+        for prev_size in [1, 2, 4] {
+            let (waitcnt, prev_addr) = (N_NOT_S[i % 2], edge.wrapping_sub(prev_size.into()));
+            let board = Board { waitcnt, prev_addr, prev_size, ..Board::default() };
+            let mut rng = Rng::new(u64::from(prev_addr));
+            let records = Steps::new(&mut rng, &few()).rows(6, &board);
+            plans.push(Plan::accepted(board, &few(), &records));
+        }
+    }
+}
+
+/// Each refusal alone, each two of them, random damage.
 fn refused(plans: &mut Vec<Plan>) {
     for first in 1..=7 {
         for turn in 0..5 {
@@ -132,20 +163,27 @@ fn refused(plans: &mut Vec<Plan>) {
             plans.push(small_enough(1500, seed, |rng| refusals::with(rng, &[first, second])));
         }
     }
-    for way in 0..2 * boards::WAYS_TO_BREAK {
-        let board = boards::broken(&mut Rng::new(7000 + way as u64), way % boards::WAYS_TO_BREAK);
-        let mut plan = Plan::accepted(board, &few(), &one_of_each()[..3]);
-        plan.meant = Some(5);
-        plans.push(plan);
+    for seed in 0..20 {
+        plans.push(small_enough(1500, 5000 + seed, refusals::damaged));
     }
-    for length in [0, 71, 73, 80] {
-        let mut plan = Plan::accepted(prefetch_on(), &few(), &one_of_each()[..3]);
+}
+
+/// Boards that aren't sound, in each of the ways and by each field of the previous access, and boards of other lengths.
+fn boards_refused(plans: &mut Vec<Plan>) {
+    let mut push = |board: Board, length: usize| {
+        let mut plan = Plan::accepted(board, &few(), &one_of_each()[..3]);
         plan.board.resize(length, 0);
         plan.meant = Some(5);
         plans.push(plan);
+    };
+    for way in 0..2 * boards::WAYS_TO_BREAK {
+        push(boards::broken(&mut Rng::new(7000 + way as u64), way % boards::WAYS_TO_BREAK), BOARD);
     }
-    for seed in 0..20 {
-        plans.push(small_enough(1500, 5000 + seed, refusals::damaged));
+    for board in boards::previous_wrong() {
+        push(board, BOARD);
+    }
+    for length in [0, 71, 72, 73, 79, 81, 144] {
+        push(prefetch_on(), length);
     }
 }
 

@@ -61,14 +61,18 @@ fn lengths(plans: &mut Vec<Plan>) {
     plans.push(short);
 }
 
-/// Random lists, at any place and along code, and some at the edges of the rounding.
+/// Random lists, at any place, along code and of rows of accesses, and some at the edges of the rounding.
 fn lists(plans: &mut Vec<Plan>) {
-    for seed in 0..6 {
+    for seed in 0..9 {
         let mut rng = Rng::new(30_000 + seed);
         let memories = Memories::random(&mut rng, 0);
         let board = boards::any_sound(&mut rng);
         let steps = Steps::new(&mut rng, &memories);
-        let records = if seed < 3 { steps.mixed(40) } else { steps.code_run(40, &board) };
+        let records = match seed {
+            0..=2 => steps.mixed(40),
+            3..=5 => steps.code_run(40, &board),
+            _ => steps.rows(40, &board),
+        };
         let (rate, length) = (bills::good_rate(&mut rng), bills::enough(&mut rng, 40));
         plans.push(Plan::accepted(board, &memories, &records).billed(length, rate, 0));
     }

@@ -1,6 +1,6 @@
 //! Lists of steps over the places where a rule changes.
 
-use crate::boards::{program_counter, CODE_EDGES};
+use crate::boards::{program_counter, row_place, CODE_EDGES};
 use crate::bytes::*;
 use crate::gen::{Memories, Rng};
 
@@ -36,6 +36,10 @@ const BASES: [(u32, u32); 9] = [
     (0x0E00_0000, 0x0001_0000), (0x0000_0000, 0), (0x0800_0000, 0x0200_0000),
 ];
 
+/// WAITCNT values for rows of accesses: as at power on; S dearer than N in window 1, in window 2 and in both; S cheaper in all
+/// three; what most cartridges set; and all bits.
+pub const ROW_WAITS: [u16; 7] = [0x0000, 0x0040, 0x0200, 0x0240, 0x0490, 0x4317, 0x5FFF];
+
 const IDLES: [u32; 16] = [0, 1, 1, 2, 3, 3, 4, 5, 6, 9, 10, 14, 27, 28, 100, u32::MAX];
 
 /// The patterns of the opcode tests (value, bits that the test looks at), and some they must miss.
@@ -46,6 +50,11 @@ const ARM: [(u32, u32); 9] = [
 ];
 const THUMB: [u32; 12] =
     [0x48, 0x4F, 0x68, 0x6F, 0x98, 0x9F, 0xC8, 0xCF, 0xBA, 0xBB, 0xBC, 0x1C];
+
+/// A READ or a WRITE, for which W-204 has one rule.
+pub fn load_or_store(rng: &mut Rng, size: u8, address: u32) -> Record {
+    if rng.percent(60) { Record::new(READ, size, address, 0) } else { Record::new(WRITE, size, address, rng.u32()) }
+}
 
 pub struct Steps<'a> {
     rng: &'a mut Rng,
@@ -81,6 +90,57 @@ impl<'a> Steps<'a> {
             records.push(record);
         }
         records
+    }
+
+    /// Rows of data accesses at rising addresses over the places where one may break off, the first where the board's previous
+    /// access ended; steps of all other kinds between (W-204).
+    pub fn rows(mut self, n: usize, board: &Board) -> Vec<Record> {
+        let mut at = board.prev_end().unwrap_or_else(|| row_place(self.rng));
+        (0..n).map(|_| self.row_step(&mut at)).collect()
+    }
+
+    /// One step among rows; `at` is where the last access ended.
+    fn row_step(&mut self, at: &mut u32) -> Record {
+        match self.rng.below(100) {
+            0..=71 => self.row_access(at),
+            72..=77 => {
+                *at = row_place(self.rng);
+                self.row_access(at)
+            }
+            78..=81 => {
+                *at = self.rng.near(*at, 5, 5);
+                self.row_access(at)
+            }
+            82..=84 => Record::new(WAITCNT, 0, 0, self.rng.pick(&ROW_WAITS).into()),
+            _ => self.between(),
+        }
+    }
+
+    /// A load or store that mostly goes on at a place; its address may lie above it by less than its size. `at` moves to its end.
+    fn row_access(&mut self, at: &mut u32) -> Record {
+        let mut size: u8 = self.rng.pick(&[1, 2, 2, 4, 4]);
+        while *at % u32::from(size) != 0 && self.rng.percent(85) {
+            size /= 2;
+        }
+        let start = lowered(*at, size);
+        let above = if self.rng.percent(25) { self.rng.below(usize::from(size)) as u32 } else { 0 };
+        *at = start.wrapping_add(size.into());
+        load_or_store(self.rng, size, start + above)
+    }
+
+    /// A step that may break a row off or not: all other kinds, and an access elsewhere.
+    fn between(&mut self) -> Record {
+        match self.rng.below(10) {
+            0 => Record::new(WAITCNT, 0, 0, self.waitcnt()),
+            1 | 2 => Record::new(IDLE, 0, 0, self.idle()),
+            3 => Record::new(FETCH, 0, self.code_address(), 0),
+            4 => Record::new(RESTART, 0, self.code_address(), 0),
+            5 => self.instruction_anywhere(2),
+            6 => self.instruction_anywhere(4),
+            7 => Record::new(PC, 0, program_counter(self.rng), 0),
+            8 => Record::new(LATCH, 0, 0, self.rng.u32()),
+            _ => self.read(),
+        }
     }
 
     /// One step of a code run; `at` moves on.

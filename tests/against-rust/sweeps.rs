@@ -1,12 +1,12 @@
-//! Inputs gone through one by one: header, record and board bytes, opcodes, WAITCNT, regions, lengths, rates.
+//! Inputs gone through one by one: header, record and board bytes, opcodes, WAITCNT, regions, lengths, rates, rows of accesses.
 
 use crate::bills::{self, MILLION};
-use crate::boards::{self, CODE_EDGES};
+use crate::boards::{self, CODE_EDGES, ROW_EDGES};
 use crate::bytes::*;
 use crate::gen::{Memories, Plan, Rng};
 use crate::machine::{BIOS_SIZE, ROM_WINDOW_SIZE, SIZES};
 use crate::refusals::{self, SHORT};
-use crate::steps::EDGES;
+use crate::steps::{load_or_store, EDGES, ROW_WAITS};
 
 pub fn for_each(visit: &mut dyn FnMut(Plan)) {
     refusal_sets(visit);
@@ -15,6 +15,7 @@ pub fn for_each(visit: &mut dyn FnMut(Plan)) {
     fault_pairs(visit);
     fault_places(visit);
     board_bytes(visit);
+    board_lengths(visit);
     board_fields(visit);
     thumb_opcodes(visit);
     arm_opcodes(visit);
@@ -28,6 +29,10 @@ pub fn for_each(visit: &mut dyn FnMut(Plan)) {
     rates(visit);
     share_lengths(visit);
     rounding(visit);
+    rows(visit);
+    previous_accesses(visit);
+    previous_fields(visit);
+    steps_between(visit);
 }
 
 fn small() -> Memories {
@@ -157,14 +162,30 @@ fn prefetch_look(board: &Board) -> Vec<Record> {
 fn board_bytes(visit: &mut dyn FnMut(Plan)) {
     let mut rng = Rng::new(72);
     let random = (0..8).map(|_| boards::any_sound(&mut rng));
-    for board in [Board::default()].into_iter().chain(boards::unreached()).chain(random) {
+    let made = [boards::unreached(), boards::accessed()].concat();
+    for board in [Board::default()].into_iter().chain(made).chain(random) {
+        // the access goes first, since the others clear what it shows
+        let mut look = vec![Record::new(READ, 2, board.prev_end().unwrap_or(0), 0)];
+        look.extend(prefetch_look(&board));
         for at in 0..BOARD {
             for byte in 0..=255 {
-                let mut plan = Plan::accepted(board, &small(), &prefetch_look(&board));
+                let mut plan = Plan::accepted(board, &small(), &look);
                 plan.board[at] = byte;
                 plan.meant = None;
                 visit(plan);
             }
+        }
+    }
+}
+
+/// Boards of each length up to twice their own and a little more: sound ones cut off, or with zeros behind them.
+fn board_lengths(visit: &mut dyn FnMut(Plan)) {
+    for board in [vec![Board::default()], boards::accessed()].concat() {
+        for length in 0..2 * BOARD + 3 {
+            let mut plan = Plan::accepted(board, &small(), &one_of_each()[..3]);
+            plan.board.resize(length, 0);
+            plan.meant = Some(if length == BOARD { 0 } else { 5 });
+            visit(plan);
         }
     }
 }
@@ -236,13 +257,14 @@ fn arm_opcodes(visit: &mut dyn FnMut(Plan)) {
 
 /// All WAITCNT values, each with every price that it sets.
 fn waitcnt_values(visit: &mut dyn FnMut(Plan)) {
-    for high in 0..128u32 {
+    for high in 0..256u32 {
         let mut records = Vec::new();
-        for low in 0..512 {
-            records.push(Record::new(WAITCNT, 0, 0, high << 9 | low));
+        for low in 0..256 {
+            records.push(Record::new(WAITCNT, 0, 0, high << 8 | low));
             for window in [0x0800_0000, 0x0A00_0000, 0x0C00_0000] {
                 records.push(Record::new(READ, 2, window, 0));
                 records.push(Record::new(READ, 4, window, 0));
+                records.push(Record::new(READ, 2, window + 4, 0));
             }
             records.push(Record::new(READ, 1, 0x0E00_0000, 0));
         }
@@ -481,4 +503,125 @@ fn each_cent(rate: u32) -> Vec<Record> {
         Record::new(IDLE, 0, 0, cycles as u32)
     });
     steps.take(MOST_RECORDS).collect()
+}
+
+// ---- rows of data accesses (W-204) ----
+
+/// Each access after each other one: the places and sizes of both around each edge, by each of the waits.
+fn rows(visit: &mut dyn FnMut(Plan)) {
+    for waitcnt in ROW_WAITS {
+        for edge in ROW_EDGES {
+            for size in [1, 2, 4] {
+                visit(row_plan(waitcnt, edge, size, 8));
+            }
+        }
+    }
+}
+
+/// Each two accesses from so many bytes below an edge to as many above it, of which the first has this size.
+pub fn row_plan(waitcnt: u16, edge: u32, size: u8, reach: u32) -> Plan {
+    let mut rng = Rng::new(u64::from(edge) + u64::from(size));
+    let mut records = Vec::new();
+    for first in near(edge, reach) {
+        for second in near(edge, reach) {
+            for next in [1, 2, 4] {
+                records.push(load_or_store(&mut rng, size, first));
+                records.push(load_or_store(&mut rng, next, second));
+            }
+        }
+    }
+    Plan::accepted(Board { waitcnt, ..Board::default() }, &small(), &records)
+}
+
+/// The places from so many bytes below an edge to as many above it, modulo 2^32.
+fn near(edge: u32, reach: u32) -> impl Iterator<Item = u32> {
+    (0..2 * reach).map(move |by| edge.wrapping_sub(reach).wrapping_add(by))
+}
+
+/// An access of each size at each place around each edge, from boards with each previous access there and with none.
+fn previous_accesses(visit: &mut dyn FnMut(Plan)) {
+    let mut rng = Rng::new(80);
+    for edge in ROW_EDGES {
+        for board in boards_before(edge) {
+            for place in near(edge, 8) {
+                for size in [1, 2, 4] {
+                    for waitcnt in [0x0000, 0x0240, 0x0490] {
+                        let record = load_or_store(&mut rng, size, place);
+                        visit(Plan::accepted(Board { waitcnt, ..board }, &small(), &[record]));
+                    }
+                }
+            }
+        }
+    }
+}
+
+/// Boards with no previous access, and with each one around an edge.
+fn boards_before(edge: u32) -> Vec<Board> {
+    let mut boards = vec![Board::default()];
+    for prev_size in [1, 2, 4] {
+        let places = near(edge, 8).filter(|&place| lowered(place, prev_size) == place);
+        boards.extend(places.map(|prev_addr| Board { prev_addr, prev_size, ..Board::default() }));
+    }
+    boards
+}
+
+/// Boards with all values of the previous access's size, at addresses of each residue, and an access where it would end.
+fn previous_fields(visit: &mut dyn FnMut(Plan)) {
+    for prev_size in 0..=255 {
+        for edge in [0, 8, 0x0800_0104, 0x0802_0000, 0x8000_0000] {
+            for prev_addr in near(edge, 4) {
+                let board = Board { prev_addr, prev_size, ..Board::default() };
+                let record = Record::new(READ, 2, prev_addr.wrapping_add(prev_size.into()), 0);
+                let mut plan = Plan::accepted(board, &small(), &[record]);
+                plan.meant = None;
+                visit(plan);
+            }
+        }
+    }
+}
+
+/// Each step between two accesses of a row, and each two steps; S is dearer than N in two windows.
+fn steps_between(visit: &mut dyn FnMut(Plan)) {
+    let steps = any_step();
+    for place in [0x0800_0204, 0x0A00_0204, 0x0C00_0204, 0x0802_0000, 0x0200_0204] {
+        for (first, second) in [1, 2, 4].into_iter().flat_map(|first| [1, 2, 4].map(|second| (first, second))) {
+            for &step in &steps {
+                between_plans(visit, place, [first, second], &[step]);
+            }
+        }
+    }
+    for &early in &steps {
+        for &late in &steps {
+            between_plans(visit, 0x0C00_0204, [2, 2], &[early, late]);
+        }
+    }
+}
+
+/// Every kind of step: fetches and instructions that hit, that miss and outside ROM, accesses that are dropped or meet no memory.
+fn any_step() -> Vec<Record> {
+    let mut steps = one_of_each();
+    steps.extend([
+        Record::new(IDLE, 0, 0, 0),
+        Record::new(WAITCNT, 0, 0, 0x4240),
+        Record::new(FETCH, 0, 0x0800_0300, 0),
+        Record::new(RESTART, 0, 0x0000_0000, 0),
+        Record::new(INSTRUCTION, 2, 0x0800_0100, 0x1C00),
+        Record::new(INSTRUCTION, 2, 0x0300_0000, 0x1C00),
+        Record::new(INSTRUCTION, 4, 0x0200_0000, 0xE1A0_0000),
+        Record::new(WRITE, 2, 0x0800_0000, 0x1234),
+        Record::new(READ, 1, 0x1000_0000, 0),
+    ]);
+    steps
+}
+
+/// Two accesses of these sizes that meet at a place, with steps between, over a full prefetch buffer. Once it ends before the
+/// second, so that the board is seen there.
+fn between_plans(visit: &mut dyn FnMut(Plan), place: u32, [first, second]: [u8; 2], between: &[Record]) {
+    let mut records = fill(0x0800_0100, 100);
+    records.push(Record::new(READ, first, place - u32::from(first), 0));
+    records.extend(between);
+    let board = Board { waitcnt: 0x4240, ..Board::default() };
+    visit(Plan::accepted(board, &small(), &records));
+    records.push(Record::new(READ, second, place, 0));
+    visit(Plan::accepted(board, &small(), &records));
 }

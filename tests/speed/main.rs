@@ -21,7 +21,7 @@ mod sides;
 mod timing;
 
 use race::Table;
-use sheets::SORTS;
+use sheets::{ROWS, SORTS};
 use sides::{LIBRARY_AND_RUST, TARIFF_AND_RUN};
 use std::process::ExitCode;
 
@@ -40,20 +40,13 @@ const ROUNDS_FOR_GROWTH: usize = 10;
 fn program(rounds: usize) -> Result<bool, String> {
     let judged = || SORTS.iter().filter(|sort| sort.judged);
     let fewer = rounds.div_ceil(ROUNDS_FOR_MANY);
-    let repeated = Table::time("first", &LIBRARY_AND_RUST, SORTS.iter(), 1, rounds)?;
-    repeated.print();
-    println!();
-    let by_turns = Table::time("second", &LIBRARY_AND_RUST, judged(), MANY, fewer)?;
-    by_turns.print();
-    println!();
+    let repeated = shown(Table::time("first", &LIBRARY_AND_RUST, SORTS.iter(), 1, rounds)?);
+    let by_turns = shown(Table::time("second", &LIBRARY_AND_RUST, judged(), MANY, fewer)?);
     let growing = growth::show(rounds.div_ceil(ROUNDS_FOR_GROWTH))?;
     println!();
-    let billed = Table::time("tariff first", &TARIFF_AND_RUN, judged(), 1, rounds)?;
-    billed.print();
-    println!();
-    let billed_by_turns = Table::time("tariff second", &TARIFF_AND_RUN, judged(), MANY, fewer)?;
-    billed_by_turns.print();
-    println!();
+    let billed = shown(Table::time("tariff first", &TARIFF_AND_RUN, judged(), 1, rounds)?);
+    let billed_by_turns = shown(Table::time("tariff second", &TARIFF_AND_RUN, judged(), MANY, fewer)?);
+    shown(Table::time("rows", &LIBRARY_AND_RUST, [&ROWS].into_iter(), 1, rounds)?);
     let tables = [repeated, by_turns, billed, billed_by_turns];
     tables.iter().for_each(|table| println!("{}", table.line()));
     let slower: Vec<String> = tables.iter().flat_map(Table::slower).collect();
@@ -66,6 +59,13 @@ fn program(rounds: usize) -> Result<bool, String> {
         println!("no slower than the Rust on the four sorts in both tables, no cost grows, and a tariff isn't too dear");
     }
     Ok(good)
+}
+
+/// Prints the table, with a line between it and the next.
+fn shown(table: Table) -> Table {
+    table.print();
+    println!();
+    table
 }
 
 fn main() -> ExitCode {

@@ -1,25 +1,27 @@
 //! The Rust's side: document 01's run done by the Rust's own functions, as leanly as it can be called.
-//! Nothing is allocated or copied in a run but the 72 bytes of the board: the memories are the bus's own `Vec`s, set up before.
-//! It does the same work as `bts_run`: it examines header, board and records, runs, counts the bytes that each store writes, and
-//! writes answers and board.
+//! Nothing is allocated or copied in a run but the 80 bytes of the board: the memories are the bus's own `Vec`s, set up before.
+//! It does the same work as `bts_run`: it examines header, board and records, runs, counts the bytes that each store writes,
+//! keeps the previous data access, and writes answers and board.
 
 use crate::bus::mirror::{io_offset, vram_offset};
 use crate::bus::prefetch::PrefetchParts;
 use crate::bus::region::{decode, Region};
 use crate::bus::video::obj_vram_base;
-use crate::bus::wait::{AccessKind, AccessSize, RomWindow, WaitTables};
+use crate::bus::wait::{classify_access, AccessKind, AccessSize, RomWindow, WaitTables};
 use crate::bus::{Bus, CpuMem, OpenBusState, PrefetchBuffer, WaitCnt};
 use crate::bytes::*;
 use crate::cpu::timing::{price_insn, TimingInput};
 use crate::cpu::IsaState;
 use crate::memories::{Memories, SIZES};
 
-/// The bus; beside it the prefetch, so that `tick_idle` can have it and the bus's read at once without a copy; WAITCNT, which
-/// the bus doesn't hold; and what stores land, by the address's top byte, the last for all from 16 on.
+/// The bus; beside it the prefetch, so that `tick_idle` can have it and the bus's read at once without a copy; WAITCNT and the
+/// previous data access, its address as lowered and its size, which the bus doesn't hold; and what stores land, by the address's
+/// top byte, the last for all from 16 on.
 pub struct Machine {
     bus: Bus,
     prefetch: PrefetchBuffer,
     waitcnt: WaitCnt,
+    previous: Option<(u32, AccessSize)>,
     landings: [Landing; 17],
 }
 
@@ -50,7 +52,13 @@ impl Machine {
             rom: m.rom.clone(),
             ..Bus::new()
         };
-        Machine { landings: landings(m.lengths), bus, prefetch: PrefetchBuffer::new(), waitcnt: WaitCnt::power_on() }
+        Machine {
+            landings: landings(m.lengths),
+            bus,
+            prefetch: PrefetchBuffer::new(),
+            waitcnt: WaitCnt::power_on(),
+            previous: None,
+        }
     }
 
     /// The seven memories of the store, in its order.
@@ -126,6 +134,7 @@ impl Machine {
         self.bus.vram_write_count = b.vram;
         self.bus.oam_write_count = b.oam;
         self.bus.palette_write_count = b.palette;
+        self.previous = (b.prev_size > 0).then(|| (b.prev_addr, access_size(b.prev_size)));
         self.prefetch = PrefetchBuffer::from_parts(PrefetchParts {
             enabled: b.prefetch_on(),
             buf: b.halfwords,
@@ -158,6 +167,8 @@ impl Machine {
         out[44..52].copy_from_slice(&self.bus.vram_write_count.to_le_bytes());
         out[52..60].copy_from_slice(&self.bus.oam_write_count.to_le_bytes());
         out[60..68].copy_from_slice(&self.bus.palette_write_count.to_le_bytes());
+        out[68..72].copy_from_slice(&self.previous.map_or(0, |(address, _)| address).to_le_bytes());
+        out[72] = self.previous.map_or(0, |(_, size)| size.bytes() as u8);
     }
 
     // ---- a step ----
@@ -176,17 +187,16 @@ impl Machine {
                 Done { value: 0, cycles: self.data_price(r.size(), r.address), hits, idle: 0 }
             }
             WAITCNT => {
+                self.previous = None;
                 self.waitcnt.write(r.value as u16);
                 self.bus.wait_tables.apply_waitcnt(self.waitcnt);
                 self.prefetch.set_enabled(self.waitcnt.prefetch_enable());
                 NOTHING
             }
             IDLE => Done { value: 0, cycles: r.value, hits: 0, idle: r.value },
-            FETCH => match self.prefetch.try_fetch_half(r.address) {
-                Some(half) => Done { value: u32::from(half), cycles: 0, hits: 1, idle: 0 },
-                None => NOTHING,
-            },
+            FETCH => self.fetch(r.address),
             RESTART => {
+                self.previous = None;
                 self.prefetch.restart(r.address, self.bus.wait_tables);
                 NOTHING
             }
@@ -239,6 +249,15 @@ impl Machine {
         landing.end.saturating_sub(place & 0u32.wrapping_sub(width)).min(width) as u8
     }
 
+    #[inline(always)]
+    fn fetch(&mut self, address: u32) -> Done {
+        self.previous = None;
+        match self.prefetch.try_fetch_half(address) {
+            Some(half) => Done { value: u32::from(half), cycles: 0, hits: 1, idle: 0 },
+            None => NOTHING,
+        }
+    }
+
     /// `tick_idle`, its reader being the bus's halfword read.
     fn tick_idle(&mut self, cycles: u32) {
         let Machine { bus, prefetch, .. } = self;
@@ -247,6 +266,7 @@ impl Machine {
 
     /// Kind 7 up to its idle cycles; the force flag that it leaves has no part in them.
     fn instruction(&mut self, r: &Fields) -> Done {
+        self.previous = None;
         let (isa, halves, opcode) = match r.size() {
             2 => (IsaState::Thumb, 1, r.value & 0xFFFF),
             _ => (IsaState::Arm, 2, r.value),
@@ -283,18 +303,27 @@ impl Machine {
         hits
     }
 
-    /// Document 01's data price: by the region of the address, every access nonsequential.
+    /// The price of a data access: by the region of its address, and in ROM by the previous one too (document 02, W-204), which
+    /// it is itself from now on.
     #[inline(always)]
-    fn data_price(&self, size: u8, address: u32) -> u32 {
+    fn data_price(&mut self, size: u8, address: u32) -> u32 {
         let tables = self.bus.wait_tables;
-        let access = match size {
-            1 => AccessSize::Byte,
-            2 => AccessSize::Half,
-            _ => AccessSize::Word,
-        };
-        let rom = |window| match size {
-            4 => tables.rom_word_cycles(window, AccessKind::Nonseq),
-            _ => tables.rom_half_cycles(window, AccessKind::Nonseq),
+        let access = access_size(size);
+        let at = lowered(address, size);
+        let previous = self.previous.replace((at, access));
+        let rom = |window| {
+            let kind = match previous {
+                // in ROM one region is one window: to decode both addresses once more is slower
+                Some((prev_addr, prev_size)) => {
+                    classify_access(prev_addr, prev_size, at, RomWindow::from_addr(prev_addr) == Some(window))
+                }
+                None => AccessKind::Nonseq,
+            };
+            let first = tables.rom_half_cycles_at(at, window, kind);
+            match access {
+                AccessSize::Word => first + tables.rom_half_cycles(window, AccessKind::Seq),
+                _ => first,
+            }
         };
         match decode(address) {
             Region::GamePakRomWs0 => rom(RomWindow::Ws0),
@@ -305,6 +334,15 @@ impl Machine {
             Region::GamePakSram => tables.sram_byte_cycles(),
             _ => WaitTables::fixed_fast_cycles(access),
         }
+    }
+}
+
+#[inline(always)]
+fn access_size(bytes: u8) -> AccessSize {
+    match bytes {
+        1 => AccessSize::Byte,
+        2 => AccessSize::Half,
+        _ => AccessSize::Word,
     }
 }
 

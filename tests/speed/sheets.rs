@@ -45,7 +45,7 @@ fn data_address(rng: &mut Rng, size: u8) -> u32 {
     if one_in(rng, 8) {
         return address;
     }
-    address & !(u32::from(size) - 1)
+    lowered(address, size)
 }
 
 /// The start of a piece of code in ROM, mostly in the first window.
@@ -144,6 +144,10 @@ pub static SORTS: [Sort; 5] = [
     Sort { name: "IDLE 1, always filling (not judged)", word: "filling", judged: false, records: idle_1_filling },
 ];
 
+/// In none of the sorts above does an access to ROM go on where the one before it ended (document 02, W-204). This one has a
+/// table of its own, since one sheet more between those of the first makes all of them slower.
+pub static ROWS: Sort = Sort { name: "READ and WRITE in rows (not judged)", word: "rows", judged: false, records: copies };
+
 /// Prefetch on, and filling from a place in ROM.
 fn opening(waitcnt: u32, place: u32) -> Vec<Record> {
     vec![Record::new(WAITCNT, 0, 0, waitcnt), Record::new(RESTART, 0, place, 0)]
@@ -200,6 +204,21 @@ fn idle_1_filling(_: u64) -> Vec<Record> {
     records
 }
 
+/// Tables copied from ROM to EWRAM, one to 16 accesses at a time: a row of READ, then one of WRITE, in one size.
+fn copies(number: u64) -> Vec<Record> {
+    let mut rng = seeded(6, number);
+    let mut records = Vec::new();
+    while records.len() < RECORDS {
+        let size: u8 = rng.pick(&[1, 2, 4, 4, 4]);
+        let (from, to) = (rom_code(&mut rng), 0x0200_0000 + lowered(rng.below(0x3_FF00) as u32, 4));
+        let places = (0..1 + rng.below(16) as u32).map(|i| i * u32::from(size));
+        records.extend(places.clone().map(|by| Record::new(READ, size, from + by, 0)));
+        records.extend(places.map(|by| Record::new(WRITE, size, to + by, from)));
+    }
+    records.truncate(RECORDS);
+    records
+}
+
 // ---- sheets for the growth of a step ----
 
 /// IDLE of a value, each after a RESTART: the buffer is filled from nothing every time, as far as the value goes.
@@ -217,7 +236,7 @@ pub fn low_reads_and_writes(span: usize) -> Vec<Record> {
     let mut rng = Rng::new(4);
     let mut one = || {
         let size: u8 = rng.pick(&[1, 2, 4]);
-        let address = rng.pick(&PLACES).0 << 24 | (rng.below(span) as u32 & !(u32::from(size) - 1));
+        let address = rng.pick(&PLACES).0 << 24 | lowered(rng.below(span) as u32, size);
         match rng.below(2) {
             0 => Record::new(READ, size, address, 0),
             _ => Record::new(WRITE, size, address, rng.u32()),

@@ -4,9 +4,10 @@ use mathlib.Core.Path.{_≡_, refl}
 use mathlib.Core.List.{List, [], _∷_, _++_}
 use Prim.Native.Nat.{ℕ}
 use lib.ListN.{replicate}
-use Rattle.model.specs.Sheet.{recordAt, recordsFrom, accessSize, isaState, stepOf, sizeFits, kindFault, fieldFault, firstOf}
+use Rattle.model.specs.Wait.{accessSize}
+use Rattle.model.specs.Sheet.{recordAt, recordsFrom, isaState, stepOf, sizeFits, kindFault, fieldFault, firstOf}
 use Rattle.model.specs.BoardBytes.{boardLength, clockOf, contentsOf, boardBytes, freshBoard, soundBeat}
-use Rattle.model.specs.BoardBytes.{soundRow, isZero, soundPrefetch, soundBytes, sound}
+use Rattle.model.specs.BoardBytes.{soundRow, isZero, soundPrefetch, soundPrevious, soundBytes, sound}
 use Rattle.model.specs.Outcome.{Lent, Outcome, sizesFit, verdict, ran, outcome}
 use Rattle.model.specs.Laws.Figures.{machine}
 
@@ -25,7 +26,7 @@ exampleSheet =
     -- READ 2 at 0x02000000
     ++ (1 ∷ 2 ∷ 0 ∷ 0 ∷ 0 ∷ 0 ∷ 0 ∷ 2 ∷ 0 ∷ 0 ∷ 0 ∷ 0 ∷ [])
 
--- a fresh board is 72 zero bytes: what `board::fresh` gives `bench`, and what the example lends
+-- a fresh board is 80 zero bytes: what `board::fresh` gives `bench`, and what the example lends
 pub fresh-zeros : boardBytes freshBoard ≡ replicate boardLength 0
 unfolding boardBytes
 fresh-zeros = refl
@@ -56,6 +57,6 @@ pub record Example (o : Outcome) : Type 0 where
 
 pub bench-example : Example (outcome example)
 unfolding machine recordAt recordsFrom accessSize isaState stepOf sizeFits kindFault fieldFault firstOf
-    clockOf contentsOf boardBytes soundBeat soundRow isZero soundPrefetch soundBytes sound
+    clockOf contentsOf boardBytes soundBeat soundRow isZero soundPrefetch soundPrevious soundBytes sound
     sizesFit verdict ran outcome
 bench-example = record { number = refl; index = refl; total = refl; answers = refl; store = refl }

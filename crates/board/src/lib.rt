@@ -19,6 +19,7 @@ ghost use mathlib.Core.List.{map};
 ghost use Prim.Native.Nat.{_≤_};
 ghost use lib.ListN.{length};
 ghost use Rattle.model.specs.Base.{encoded, field};
+ghost use Rattle.model.specs.Price.{previously};
 ghost use Rattle.model.specs.BoardBytes as def;
 
 // ---- reading
@@ -50,6 +51,8 @@ pub fn load_clock(board: &[u8]) -> Clock
         waitcnt,
         force_next_fetch_n: board[2] == 1,
         prefetch,
+        prev_addr: read32(board, 68),
+        prev_size: board[72] as u32,
     }
 }
 
@@ -137,13 +140,23 @@ fn sound_prefetch(p: PrefetchBuffer) -> bool
         & (p.enabled | is_zero(p))
 }
 
+// The previous data access: with size 0 its address is 0, otherwise a multiple of its size, which is 1, 2 or 4 (W-204).
+fn sound_previous(addr: u32, size: u32) -> bool
+    ensures { λ r. ⌜ r ≡ def.soundPrevious (previously addr size) ⌝ }
+{
+    if size == 0 {
+        return addr == 0;
+    }
+    ((size == 1) | (size == 2) | (size == 4)) & (addr % size == 0)
+}
+
 // Zero bytes are zero, flags are 0 or 1, and WAITCNT bit 13 is clear.
 fn sound_bytes(board: &[u8]) -> bool
     requires { ⌜ length (now board) ≡ def.boardLength ⌝ }
     ensures { λ r. ⌜ r ≡ def.soundBytes (now (board .entry)) ⌝ }
 {
     (board[7] == 0)
-        & (read32(board, 68) == 0)
+        & ((board[73] == 0) & (read16(board, 74) == 0) & (read32(board, 76) == 0))
         & (board[2] <= 1)
         & (board[5] <= 1)
         & (board[6] <= 1)
@@ -158,7 +171,9 @@ pub fn is_sound(board: &[u8]) -> bool
         return false;
     }
     let clock = load_clock(board);
-    sound_bytes(board) & sound_prefetch(clock.prefetch)
+    sound_bytes(board)
+        & sound_prefetch(clock.prefetch)
+        & sound_previous(clock.prev_addr, clock.prev_size)
 }
 
 // ---- writing
@@ -201,16 +216,31 @@ fn put_halves(out: &mut [u8], halves: [u16; 8])
     }
 }
 
-// Bytes 36 to 71: two words, three counters, and four zero bytes.
+// Bytes 36 to 67: two words and three counters.
 fn put_contents(out: &mut [u8], contents: Contents)
-    requires { ⌜ length (now out) ≡ 36 ⌝ }
+    requires { ⌜ length (now out) ≡ 32 ⌝ }
     ensures { λ _. ⌜ now (out .exit) ≡ encoded (def.contentsFields contents) ⌝ }
 {
     put_pair(&mut out[0..8], contents.cpu_pc, contents.last_bios_opcode);
     put64(&mut out[8..16], contents.vram_write_count);
     put64(&mut out[16..24], contents.oam_write_count);
     put64(&mut out[24..32], contents.palette_write_count);
-    put32(&mut out[32..36], 0);
+}
+
+// Bytes 68 to 79: the previous data access, and seven zero bytes.
+fn put_previous(out: &mut [u8], addr: u32, size: u32)
+    requires { ⌜ length (now out) ≡ 12 ⌝ }
+    ensures { λ _. ⌜ now (out .exit) ≡ encoded (def.previousFields (previously addr size)) ⌝ }
+{
+    put32(&mut out[0..4], addr);
+    out[4] = (size % 256) as u8;
+    out[5] = 0;
+    out[6] = 0;
+    out[7] = 0;
+    out[8] = 0;
+    out[9] = 0;
+    out[10] = 0;
+    out[11] = 0;
 }
 
 // The whole board, written over what stood there.
@@ -220,7 +250,12 @@ pub fn put_board(board: &mut [u8], clock: Clock, halves: [u16; 8], contents: Con
 {
     put_clock(&mut board[0..20], clock);
     put_halves(&mut board[20..36], halves);
-    put_contents(&mut board[36..BOARD_LENGTH], contents);
+    put_contents(&mut board[36..68], contents);
+    put_previous(
+        &mut board[68..BOARD_LENGTH],
+        clock.prev_addr,
+        clock.prev_size,
+    );
 }
 
 // The bytes of a fresh board.

@@ -42,12 +42,6 @@ unlatched pc op e = unlatched-case (ltb pc biosSize) op e
 
 -- ---- wide loads
 
--- no size is 0
-pub some-bytes : (z : AccessSize) → 0 < sizeBytes z
-some-bytes Byte = lit< tt
-some-bytes Half = lit< tt
-some-bytes Word = lit< tt
-
 -- the memory that is met lies in the store
 pub meets-lies : (l : Lengths) (a : ℕ) {t : Target} {s : List ℕ} → Meets t l a s → Lies (length s) t
 meets-lies l a m = rw (m .memory, ← m .whole) (target-lies l a)

@@ -1,5 +1,6 @@
--- A board as 72 bytes, when such bytes are sound, and an answer as 12.
--- From document 01, "Records (added)": "Board" is its word for the state that a run starts from and leaves.
+-- A board as 80 bytes, when such bytes are sound, and an answer as 12.
+-- From document 01, "Records (added)": "Board" is its word for the state that a run starts from and leaves; from byte 68 on,
+-- document 02, W-204.
 use mathlib.Core.Bool.{Bool, false, not, _&&_, _||_}
 use mathlib.Core.List.{List, [], _∷_, _++_}
 use Prim.Native.Nat.{ℕ, _+_, _-_, _*_, _/_, _%_}
@@ -9,6 +10,7 @@ use Rattle.model.specs.Base.{if_then_else_, bit, same, byteAt, number, n
 use Rattle.model.specs.Waitcnt.{prefetchEnable}
 use Rattle.model.specs.Wait.{inWindow}
 use Rattle.model.specs.Prefetch.{newBuffer}
+use Rattle.model.specs.Price.{Previous, previous}
 use Rattle.model.specs.declared.PrefetchBuffer.{PrefetchBuffer}
 use Rattle.model.specs.declared.Clock.{Clock}
 use Rattle.model.specs.declared.Contents.{Contents}
@@ -16,7 +18,7 @@ use Rattle.model.specs.declared.Board.{Board}
 use Rattle.model.specs.declared.Answer.{Answer}
 
 abbrev pub boardLength : ℕ
-boardLength = 72
+boardLength = 80
 
 abbrev pub answerLength : ℕ
 answerLength = 12
@@ -43,6 +45,8 @@ clockOf b =
       waitcnt = number 2 b 0;
       «force_next_fetch_n» = eqb (byteAt b 2) 1;
       prefetch = prefetchOf b (prefetchEnable (number 2 b 0));
+      «prev_addr» = number 4 b 68;
+      «prev_size» = byteAt b 72;
     }
 
 -- n halfwords from place i on
@@ -83,7 +87,7 @@ wordFields p = field 4 (p .«wait_left») ∷ field 4 (p .«next_addr») ∷ fie
 abbrev pub clockFields : Clock → List Field
 clockFields c = flagFields c ++ wordFields (c .prefetch)
 
--- bytes 36 to 71
+-- bytes 36 to 67
 abbrev pub contentsFields : Contents → List Field
 contentsFields d =
     field 4 (d .«cpu_pc»)
@@ -91,19 +95,24 @@ contentsFields d =
     ∷ field 8 (d .«vram_write_count»)
     ∷ field 8 (d .«oam_write_count»)
     ∷ field 8 (d .«palette_write_count»)
-    ∷ field 4 0
     ∷ []
+
+-- bytes 68 to 79
+abbrev pub previousFields : Previous → List Field
+previousFields p = field 4 (p .addr) ∷ field 1 (p .size) ∷ field 7 0 ∷ []
 
 unfoldable pub boardBytes : Board → List ℕ
 boardBytes b =
-    encoded (clockFields (b .clock)) ++ (numbersBytes 2 (b .halves) ++ encoded (contentsFields (b .contents)))
+    encoded (clockFields (b .clock))
+    ++ (numbersBytes 2 (b .halves) ++ encoded (contentsFields (b .contents) ++ previousFields (previous (b .clock))))
 
 -- ---- the board whose bytes are all zero
 
 abbrev pub freshBoard : Board
 freshBoard =
     record {
-      clock = record { waitcnt = 0; «force_next_fetch_n» = false; prefetch = newBuffer };
+      clock =
+          record { waitcnt = 0; «force_next_fetch_n» = false; prefetch = newBuffer; «prev_addr» = 0; «prev_size» = 0 };
       halves = replicate 8 0;
       contents =
           record {
@@ -139,14 +148,21 @@ soundPrefetch p =
     leb (p .head) 7 && leb (p .count) 8 && leb (p .«wait_left») 9 && eqb (p .«next_addr» % 2) 0
     && soundBeat p && soundRow p && (p .enabled || isZero p)
 
+-- the previous data access: with size 0 its address is 0; otherwise its size is 1, 2 or 4, and its address a multiple of that
+unfoldable pub soundPrevious : Previous → Bool
+soundPrevious p =
+    if eqb (p .size) 0 then eqb (p .addr) 0
+    else (eqb (p .size) 1 || eqb (p .size) 2 || eqb (p .size) 4) && eqb (p .addr % p .size) 0
+
 -- zero bytes are zero, flags are 0 or 1, WAITCNT bit 13 is clear
 unfoldable pub soundBytes : List ℕ → Bool
 soundBytes b =
-    eqb (byteAt b 7) 0 && eqb (number 4 b 68) 0 && leb (byteAt b 2) 1 && leb (byteAt b 5) 1 && leb (byteAt b 6) 1
+    eqb (byteAt b 7) 0 && eqb (number 7 b 73) 0 && leb (byteAt b 2) 1 && leb (byteAt b 5) 1 && leb (byteAt b 6) 1
     && eqb (number 2 b 0 / 0x2000 % 2) 0
 
 unfoldable pub sound : List ℕ → Bool
-sound b = eqb (length b) boardLength && soundBytes b && soundPrefetch ((clockOf b) .prefetch)
+sound b =
+    eqb (length b) boardLength && soundBytes b && soundPrefetch ((clockOf b) .prefetch) && soundPrevious (previous (clockOf b))
 
 -- ---- answers
 

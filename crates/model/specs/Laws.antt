@@ -1,8 +1,10 @@
 -- The theorems about the definitions, from the small to the large.
 pub mod Choice
+pub mod Window
+pub mod Sizes
+pub mod Previous
 pub mod Rules
 pub mod Figures
-pub mod Window
 pub mod Bounds
 pub mod Tick
 pub mod Switch

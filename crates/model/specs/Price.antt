@@ -1,10 +1,12 @@
 -- What a data access costs: it is a list of beats, and its price is their sum.
--- From document 01, "Data price (added)", with GBATEK's access times. Departure: GBATEK has sequential data accesses.
+-- From document 01, "Data price (added)", and document 02, W-204, with GBATEK's access times.
 use mathlib.Core.List.{List, [], _∷_, map}
 use Prim.Native.Nat.{ℕ}
-use Rattle.model.specs.Base.{sum}
-use Rattle.model.specs.Region.{decode}
+use lib.Dec.{eqb}
+use Rattle.model.specs.Base.{if_then_else_, sum}
+use Rattle.model.specs.Region.{decode, sameRegion}
 use Rattle.model.specs.Waitcnt.{Waits, romWaits, sramWaits}
+use Rattle.model.specs.Wait.{sizeBytes, accessSize, aligned, kindAt, classifyAccess}
 use Rattle.model.specs.Wait.{romHalfCycles, sramByteCycles, ewramCycles, videoRamCycles, fixedFastCycles}
 use Rattle.model.specs.declared.Region.{Region}
 use Rattle.model.specs.declared.Region.the-variants.{Bios, UnusedLow, Ewram, Iwram, Io, Palette, Vram, Oam}
@@ -15,6 +17,7 @@ use Rattle.model.specs.declared.AccessKind.{AccessKind}
 use Rattle.model.specs.declared.AccessKind.the-variants.{Nonseq, Seq}
 use Rattle.model.specs.declared.AccessSize.{AccessSize}
 use Rattle.model.specs.declared.AccessSize.the-variants.{Byte, Half, Word}
+use Rattle.model.specs.declared.Clock.{Clock}
 
 -- ---- beats
 
@@ -43,6 +46,37 @@ beatCycles t FastBeat = fixedFastCycles
 abbrev pub price : Waits → List Beat → ℕ
 price t bs = sum (map (beatCycles t) bs)
 
+-- ---- the kind of a data access (W-204)
+
+-- the previous one: its address as lowered to a multiple of its size, and the size in bytes, 0 for none
+pub record Previous : Type 0 where
+  pub addr : ℕ
+  pub size : ℕ
+
+abbrev pub previously : ℕ → ℕ → Previous
+previously a z = record { addr = a; size = z }
+
+-- that of a clock
+abbrev pub previous : Clock → Previous
+previous c = previously (c .«prev_addr») (c .«prev_size»)
+
+-- an access is the previous one of the next
+abbrev pub accessOf : AccessSize → ℕ → Previous
+accessOf z a = previously (aligned z a) (sizeBytes z)
+
+abbrev pub noAccess : Previous
+noAccess = previously 0 0
+
+-- the kind of an access at the lowered address `n`, from the previous one; with none before it, nonsequential
+unfoldable pub kindAfter : Previous → ℕ → AccessKind
+kindAfter p n =
+    if eqb (p .size) 0 then Nonseq
+    else classifyAccess (p .addr) (accessSize (p .size)) n (sameRegion (decode (p .addr)) (decode n))
+
+-- that of the first beat of an access, if it lies in ROM
+abbrev pub firstKind : Previous → AccessSize → ℕ → AccessKind
+firstKind p z a = kindAt (aligned z a) (kindAfter p (aligned z a))
+
 -- ---- the beats of a data access
 
 -- a word takes two beats on a bus of 16 bits
@@ -51,30 +85,30 @@ wide Byte first second = first ∷ []
 wide Half first second = first ∷ []
 wide Word first second = first ∷ second ∷ []
 
--- every access is taken as nonsequential; the second beat of a word follows the first
-abbrev pub romAccess : AccessSize → RomWindow → List Beat
-romAccess z win = wide z (RomBeat win Nonseq) (RomBeat win Seq)
+-- the second beat of a word follows the first
+abbrev pub romAccess : AccessSize → AccessKind → RomWindow → List Beat
+romAccess z k win = wide z (RomBeat win k) (RomBeat win Seq)
 
--- by the region of the address; SRAM has so many waits
-abbrev pub dataBeatsIn : ℕ → AccessSize → Region → List Beat
-dataBeatsIn sram z Bios = FastBeat ∷ []
-dataBeatsIn sram z UnusedLow = FastBeat ∷ []
-dataBeatsIn sram z Ewram = wide z (EwramBeat Half) (EwramBeat Half)
-dataBeatsIn sram z Iwram = FastBeat ∷ []
-dataBeatsIn sram z Io = FastBeat ∷ []
-dataBeatsIn sram z Palette = wide z VideoBeat VideoBeat
-dataBeatsIn sram z Vram = wide z VideoBeat VideoBeat
-dataBeatsIn sram z Oam = FastBeat ∷ []
-dataBeatsIn sram z GamePakRomWs0 = romAccess z Ws0
-dataBeatsIn sram z GamePakRomWs1 = romAccess z Ws1
-dataBeatsIn sram z GamePakRomWs2 = romAccess z Ws2
-dataBeatsIn sram z GamePakSram = SramBeat sram ∷ []
-dataBeatsIn sram z UnusedHigh = FastBeat ∷ []
+-- by the region of the address; SRAM has so many waits, and in ROM the first beat is of kind `k`
+abbrev pub dataBeatsIn : ℕ → AccessSize → AccessKind → Region → List Beat
+dataBeatsIn sram z k Bios = FastBeat ∷ []
+dataBeatsIn sram z k UnusedLow = FastBeat ∷ []
+dataBeatsIn sram z k Ewram = wide z (EwramBeat Half) (EwramBeat Half)
+dataBeatsIn sram z k Iwram = FastBeat ∷ []
+dataBeatsIn sram z k Io = FastBeat ∷ []
+dataBeatsIn sram z k Palette = wide z VideoBeat VideoBeat
+dataBeatsIn sram z k Vram = wide z VideoBeat VideoBeat
+dataBeatsIn sram z k Oam = FastBeat ∷ []
+dataBeatsIn sram z k GamePakRomWs0 = romAccess z k Ws0
+dataBeatsIn sram z k GamePakRomWs1 = romAccess z k Ws1
+dataBeatsIn sram z k GamePakRomWs2 = romAccess z k Ws2
+dataBeatsIn sram z k GamePakSram = SramBeat sram ∷ []
+dataBeatsIn sram z k UnusedHigh = FastBeat ∷ []
 
--- under WAITCNT `w`
-unfoldable pub dataBeats : ℕ → AccessSize → ℕ → List Beat
-dataBeats w z a = dataBeatsIn (sramWaits w) z (decode a)
+-- under WAITCNT `w`, after the access `p`
+unfoldable pub dataBeats : ℕ → Previous → AccessSize → ℕ → List Beat
+dataBeats w p z a = dataBeatsIn (sramWaits w) z (firstKind p z a) (decode a)
 
--- the cycles of an access of size `z` at address `a` under WAITCNT `w`
-abbrev pub dataCycles : ℕ → AccessSize → ℕ → ℕ
-dataCycles w z a = price (romWaits w) (dataBeats w z a)
+-- the cycles of an access of size `z` at address `a` under WAITCNT `w`, after the access `p`
+abbrev pub dataCycles : ℕ → Previous → AccessSize → ℕ → ℕ
+dataCycles w p z a = price (romWaits w) (dataBeats w p z a)

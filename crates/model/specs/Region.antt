@@ -70,6 +70,25 @@ regionAt p a =
 unfoldable pub decode : ℕ → Region
 decode a = regionAt (page a) a
 
+-- the regions in the order of the map, by which two are compared
+abbrev pub regionNumber : Region → ℕ
+regionNumber Bios = 0
+regionNumber UnusedLow = 1
+regionNumber Ewram = 2
+regionNumber Iwram = 3
+regionNumber Io = 4
+regionNumber Palette = 5
+regionNumber Vram = 6
+regionNumber Oam = 7
+regionNumber GamePakRomWs0 = 8
+regionNumber GamePakRomWs1 = 9
+regionNumber GamePakRomWs2 = 10
+regionNumber GamePakSram = 11
+regionNumber UnusedHigh = 12
+
+abbrev pub sameRegion : Region → Region → Bool
+sameRegion r s = eqb (regionNumber r) (regionNumber s)
+
 -- ---- what a region has
 
 abbrev pub busWidth : Region → RegionWidth

@@ -6,8 +6,7 @@ use Prim.Native.Nat.{ℕ, zero, suc, _+_, _*_, _%_}
 use lib.ListN.{length}
 use lib.Dec.{eqb, leb}
 use Rattle.model.specs.Base.{if_then_else_, byteAt, number}
-use Rattle.model.specs.declared.AccessSize.{AccessSize}
-use Rattle.model.specs.declared.AccessSize.the-variants.{Byte, Half, Word}
+use Rattle.model.specs.Wait.{accessSize}
 use Rattle.model.specs.declared.IsaState.{IsaState}
 use Rattle.model.specs.declared.IsaState.the-variants.{Arm, Thumb}
 use Rattle.model.specs.declared.SheetRecord.{SheetRecord}
@@ -69,9 +68,6 @@ recordsOf s = recordsFrom s 0 (recordCount s)
 
 -- ---- the step of a record without fault, whose WAITCNT value has 16 bits.
 -- Kinds: 1 READ, 2 WRITE, 3 WAITCNT, 4 IDLE, 5 FETCH, 6 RESTART, 7 INSTRUCTION, 8 PC, 9 LATCH
-
-unfoldable pub accessSize : ℕ → AccessSize
-accessSize size = if eqb size 1 then Byte else if eqb size 2 then Half else Word
 
 unfoldable pub isaState : ℕ → IsaState
 isaState size = if eqb size 2 then Thumb else Arm

@@ -1,7 +1,8 @@
 -- A step, and the run over a list of steps. A step is two records: what it does to time (`timed`), a function of the clock
 -- and the step alone, and what it does to the contents (`changed`), where the memories enter. No definition of time has a
 -- memory among its arguments.
--- From document 01, "Records (added)", "Kind 7 (added)", "Data price (added)"; each step names the Rust calls it stands for.
+-- From document 01, "Records (added)", "Kind 7 (added)", "Data price (added)", and document 02, W-204; each step names the Rust
+-- calls it stands for.
 use mathlib.Core.Bool.{Bool, false, _&&_}
 use mathlib.Core.List.{List, [], _∷_, map}
 use Prim.Native.Nat.{ℕ, _+_}
@@ -10,7 +11,7 @@ use Rattle.model.specs.Base.{if_then_else_, bit, sum, further}
 use Rattle.model.specs.Waitcnt.{Waits, written, prefetchEnable, romWaits}
 use Rattle.model.specs.Wait.{window}
 use Rattle.model.specs.Prefetch.{setEnabled, restart, ticks, filled, hit, fetched}
-use Rattle.model.specs.Price.{dataCycles}
+use Rattle.model.specs.Price.{Previous, previous, accessOf, noAccess, dataCycles}
 use Rattle.model.specs.Timing.{priceInsn}
 use Rattle.model.specs.Memory.{target}
 use Rattle.model.specs.Load.{Bus, load, load16}
@@ -42,7 +43,31 @@ abbrev pub waitsOf : Clock → Waits
 waitsOf c = romWaits (c .waitcnt)
 
 abbrev pub withPrefetch : Clock → PrefetchBuffer → Clock
-withPrefetch c p = record { waitcnt = c .waitcnt; «force_next_fetch_n» = c .«force_next_fetch_n»; prefetch = p }
+withPrefetch c p =
+    record {
+      waitcnt = c .waitcnt;
+      «force_next_fetch_n» = c .«force_next_fetch_n»;
+      prefetch = p;
+      «prev_addr» = c .«prev_addr»;
+      «prev_size» = c .«prev_size»;
+    }
+
+abbrev pub withPrevious : Clock → Previous → Clock
+withPrevious c p =
+    record {
+      waitcnt = c .waitcnt;
+      «force_next_fetch_n» = c .«force_next_fetch_n»;
+      prefetch = c .prefetch;
+      «prev_addr» = p .addr;
+      «prev_size» = p .size;
+    }
+
+-- every data access is the previous one of the next; what fetches opcodes or sets the waits clears it (W-204)
+abbrev pub accessed : Clock → AccessSize → ℕ → Clock
+accessed c z a = withPrevious c (accessOf z a)
+
+abbrev pub cleared : Clock → Clock
+cleared c = withPrevious c noAccess
 
 -- `write`, then `apply_waitcnt`
 unfoldable pub setWaitcnt : Clock → ℕ → Clock
@@ -51,6 +76,8 @@ setWaitcnt c v =
       waitcnt = written (c .waitcnt) v;
       «force_next_fetch_n» = c .«force_next_fetch_n»;
       prefetch = setEnabled (prefetchEnable (written (c .waitcnt) v)) (c .prefetch);
+      «prev_addr» = c .«prev_addr»;
+      «prev_size» = c .«prev_size»;
     }
 
 -- an instruction is priced with the board's switch and force flag
@@ -95,13 +122,16 @@ codeHits c isa a = hitsIn (c .prefetch) a isa (window a)
 unfoldable pub codeFetched : Clock → IsaState → ℕ → PrefetchBuffer
 codeFetched c isa a = fetchedIn (waitsOf c) (c .prefetch) a isa (window a)
 
--- the clock after an instruction is priced and fetched: the force flag is what it leaves to the next
+-- the clock after an instruction is priced and fetched: the force flag is what it leaves to the next, and no data access is the
+-- previous one
 unfoldable pub codeClock : Clock → IsaState → ℕ → ℕ → Bool → Clock
 codeClock c isa a op jump =
     record {
       waitcnt = c .waitcnt;
       «force_next_fetch_n» = (priced c isa a op jump) .«latch_disable_bug»;
       prefetch = codeFetched c isa a;
+      «prev_addr» = noAccess .addr;
+      «prev_size» = noAccess .size;
     }
 
 -- ---- a step in time
@@ -118,12 +148,12 @@ abbrev pub timing : Clock → ℕ → ℕ → ℕ → Timed
 timing c idle cycles hits = record { clock = c; idle = idle; cycles = cycles; hits = hits }
 
 abbrev pub timed : Clock → Step → Timed
-timed c (Read z a) = timing c 0 (dataCycles (c .waitcnt) z a) 0
-timed c (Write z a v) = timing c 0 (dataCycles (c .waitcnt) z a) 0
-timed c (Waitcnt v) = timing (setWaitcnt c v) 0 0 0
+timed c (Read z a) = timing (accessed c z a) 0 (dataCycles (c .waitcnt) (previous c) z a) 0
+timed c (Write z a v) = timing (accessed c z a) 0 (dataCycles (c .waitcnt) (previous c) z a) 0
+timed c (Waitcnt v) = timing (cleared (setWaitcnt c v)) 0 0 0
 timed c (Idle n) = timing c n n 0
-timed c (Fetch a) = timing (withPrefetch c (fetched (c .prefetch) a)) 0 0 (bit (hit (c .prefetch) a))
-timed c (Restart a) = timing (withPrefetch c (restart (waitsOf c) (c .prefetch) a)) 0 0 0
+timed c (Fetch a) = timing (cleared (withPrefetch c (fetched (c .prefetch) a))) 0 0 (bit (hit (c .prefetch) a))
+timed c (Restart a) = timing (cleared (withPrefetch c (restart (waitsOf c) (c .prefetch) a))) 0 0 0
 timed c (Instruction isa a op jump) =
     timing (codeClock c isa a op jump) ((priced c isa a op jump) .«cart_idle»)
     ((priced c isa a op jump) .total) (codeHits c isa a)

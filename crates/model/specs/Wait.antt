@@ -2,10 +2,10 @@
 -- From GBATEK, "GBA Memory Map" (access times) and "GBA System Control" (waitstates); src/bus/wait.rs; document 01, "wait.rs".
 use mathlib.Core.Bool.{Bool, true, false, not, _&&_}
 use mathlib.Core.List.{[]}
-use Prim.Native.Nat.{ℕ, _+_, _%_}
+use Prim.Native.Nat.{ℕ, _+_, _%_, _^_}
 use lib.ListN.{getD}
 use lib.Dec.{eqb, ltb}
-use Rattle.model.specs.Base.{if_then_else_, further}
+use Rattle.model.specs.Base.{if_then_else_, further, lowered}
 use Rattle.model.specs.Region.{page}
 use Rattle.model.specs.Waitcnt.{Waits}
 use Rattle.model.specs.declared.RomWindow.{RomWindow}
@@ -21,6 +21,20 @@ abbrev pub sizeBytes : AccessSize → ℕ
 sizeBytes Byte = 1
 sizeBytes Half = 2
 sizeBytes Word = 4
+
+-- the power of two that they are
+abbrev pub sizeLog2 : AccessSize → ℕ
+sizeLog2 Byte = 0
+sizeLog2 Half = 1
+sizeLog2 Word = 2
+
+-- back from the bytes, where they are 1, 2 or 4
+unfoldable pub accessSize : ℕ → AccessSize
+accessSize bytes = if eqb bytes 1 then Byte else if eqb bytes 2 then Half else Word
+
+-- the 32 bits of an address, lowered to a multiple of a size
+unfoldable pub aligned : AccessSize → ℕ → ℕ
+aligned z a = lowered (sizeBytes z) (a % 2 ^ 32)
 
 -- ---- windows
 

@@ -141,7 +141,7 @@ pub const ANSWER_LENGTH: usize = 12;
 // A step's share of the charge (W-202).
 pub const SHARE_LENGTH: usize = 8;
 
-pub const BOARD_LENGTH: usize = 72;
+pub const BOARD_LENGTH: usize = 80;
 
 // The most records of a sheet.
 pub const MAX_RECORDS: usize = 4096;
@@ -187,6 +187,10 @@ pub struct Clock {
     pub waitcnt: u16,
     pub force_next_fetch_n: bool,
     pub prefetch: PrefetchBuffer,
+    // The previous data access (W-204): its address as lowered to a multiple of its size, and the size in bytes, 0 for none. They
+    // are two fields, not a struct of their own or an enum: the run is quicker by it.
+    pub prev_addr: u32,
+    pub prev_size: u32,
 }
 
 // What loads and stores see or change of a board.
@@ -206,7 +210,7 @@ pub struct Board {
 }
 
 impl Board {
-    // The board whose 72 bytes are all zero.
+    // The board whose bytes are all zero.
     pub fn fresh() -> Board
         ensures { λ r. ⌜ r ≡ freshBoard ⌝ }
     {
@@ -215,6 +219,8 @@ impl Board {
             waitcnt: 0,
             force_next_fetch_n: false,
             prefetch,
+            prev_addr: 0,
+            prev_size: 0,
         };
         let halves = [0u16; 8];
         let contents = Contents {

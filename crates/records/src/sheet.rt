@@ -4,13 +4,13 @@ use le::byte_at;
 use le::half;
 use le::half_at;
 use le::read32;
-use model::AccessSize;
 use model::HEADER_LENGTH;
 use model::IsaState;
 use model::MAX_RECORDS;
 use model::RECORD_LENGTH;
 use model::SheetRecord;
 use model::Step;
+use waits::access_size;
 ghost use mathlib.Core.Path.{_≡_};
 ghost use Prim.Native.Nat.{_+_, _*_, _≤_};
 ghost use lib.ListN.{length};
@@ -68,18 +68,6 @@ pub fn record_at(sheet: &[u8], k: usize) -> SheetRecord
     }
 }
 
-fn access_size(size: u8) -> AccessSize
-    ensures { λ r. ⌜ r ≡ def.accessSize size ⌝ }
-{
-    if size == 1 {
-        return AccessSize::Byte;
-    }
-    if size == 2 {
-        return AccessSize::Half;
-    }
-    AccessSize::Word
-}
-
 fn isa_state(size: u8) -> IsaState
     ensures { λ r. ⌜ r ≡ def.isaState size ⌝ }
 {
@@ -103,10 +91,10 @@ pub fn step_of(r: SheetRecord) -> Step
     }
     if kind <= 2 {
         if kind == 1 {
-            return Step::Read(access_size(r.size), r.address);
+            return Step::Read(access_size(r.size as u32), r.address);
         }
         if kind == 2 {
-            return Step::Write(access_size(r.size), r.address, r.value);
+            return Step::Write(access_size(r.size as u32), r.address, r.value);
         }
         return Step::Latch(r.value);
     }

@@ -4,11 +4,15 @@ use mathlib.Core.Path.{_≡_}
 use mathlib.Core.List.{List, []}
 use Prim.Native.Nat.{ℕ}
 use lib.ListN.{length}
+use Rattle.model.specs.Region.{decode}
 use Rattle.model.specs.Waitcnt.{Waits, romWaits}
+use Rattle.model.specs.Price.{Previous}
 use Rattle.model.specs.Memory.{lengthsSum}
 use Rattle.model.specs.Store.{landed}
 use Rattle.model.specs.Step.{Media, State, Timed, timed, Changed, changed, hitsOf, stepped, answer, boardWith}
+use Rattle.model.specs.Laws.Previous.{SoundPrevious}
 use Rattle.model.specs.Laws.Sound.{SoundClock}
+use Rattle.model.specs.declared.Region.{Region}
 use Rattle.model.specs.declared.AccessSize.{AccessSize}
 use Rattle.model.specs.declared.Clock.{Clock}
 use Rattle.model.specs.declared.Contents.{Contents}
@@ -35,6 +39,12 @@ pub record Runnable (c : Clock) (t : Waits) (l : Lengths) (store : List ℕ) : T
   pub sound : SoundClock c
   pub waits : t ≡ romWaits (c .waitcnt)
   pub whole : lengthsSum l ≡ length store
+
+-- what a price asks: the waits of the register, a sound previous access, and the region of the address
+pub record Priceable (w : ℕ) (p : Previous) (t : Waits) (a : ℕ) (r : Region) : Type 0 where
+  pub waits : t ≡ romWaits w
+  pub sound : SoundPrevious p
+  pub region : r ≡ decode a
 
 -- ---- up to its idle cycles
 

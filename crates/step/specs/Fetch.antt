@@ -11,7 +11,7 @@ use Rattle.model.specs.Waitcnt.{Waits, romWaits}
 use Rattle.model.specs.Wait.{window}
 use Rattle.model.specs.Prefetch.{restart, occupied, hit, taken, fetched}
 use Rattle.model.specs.Timing.{priceInsn}
-use Rattle.model.specs.Step.{withPrefetch, timingInput, priced, romFetched, romHits, fetchedIn}
+use Rattle.model.specs.Step.{withPrefetch, cleared, timingInput, priced, romFetched, romHits, fetchedIn}
 use Rattle.model.specs.Step.{hitsIn, codeFetched, codeHits, codeClock, halfAt}
 use Rattle.model.specs.Laws.Choice.{choose, either}
 use Rattle.model.specs.Laws.Rules.{missed-again}
@@ -73,9 +73,13 @@ codeFetch t p a isa = record { prefetch = fetchedIn t p a isa (window a); hits =
 
 -- ---- FETCH: what was found says whether the buffer hit
 
+-- a clock with another buffer, and no previous data access
+abbrev pub refetching : Clock → PrefetchBuffer → Clock
+refetching c p = cleared (withPrefetch c p)
+
 abbrev pub fetching : Clock → Contents → ℕ → ℕ → ℕ → Begun
 fetching c d a value hits =
-    record { clock = withPrefetch c (fetched (c .prefetch) a); idle = 0; cycles = 0; hits = hits; value = value; contents = d }
+    record { clock = refetching c (fetched (c .prefetch) a); idle = 0; cycles = 0; hits = hits; value = value; contents = d }
 
 abbrev Fetches : Clock → List ℕ → Contents → ℕ → ℕ → ℕ → Type 0
 Fetches c h d a value hits = fetching c d a value hits ≡ begun (mediaFrom [] [] noLengths) (stateFrom c h d []) (Fetch a)
@@ -99,7 +103,14 @@ fetch-misses c h d a =
 abbrev pub instructing : Clock → Contents → InsnCycles → CodeFetch → Begun
 instructing c d price fetch =
     record {
-      clock = record { waitcnt = c .waitcnt; «force_next_fetch_n» = price .«latch_disable_bug»; prefetch = fetch .prefetch };
+      clock =
+          record {
+            waitcnt = c .waitcnt;
+            «force_next_fetch_n» = price .«latch_disable_bug»;
+            prefetch = fetch .prefetch;
+            «prev_addr» = 0;
+            «prev_size» = 0;
+          };
       idle = price .«cart_idle»;
       cycles = price .total;
       hits = fetch .hits;

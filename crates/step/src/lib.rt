@@ -21,15 +21,14 @@ ghost use mathlib.Core.List.{[]};
 ghost use Prim.Native.Nat.{_<_};
 ghost use lib.ListN.{length};
 ghost use Rattle.model.specs.Waitcnt.{romWaits, sramWaits};
-ghost use Rattle.model.specs.Memory.{lengthsSum};
-ghost use Rattle.model.specs.Price.{price, dataBeatsIn};
+ghost use Rattle.model.specs.Wait.{sizeBytes, kindAt};
+ghost use Rattle.model.specs.Price.{price, previously, kindAfter, dataBeatsIn};
 ghost use Rattle.model.specs.Step as machine;
-ghost use Rattle.model.specs.Laws.Sound.{SoundClock};
 ghost use Rattle.model.specs.declared.IsaState.the-variants.{Arm, Thumb};
 ghost use Rattle.model.specs.declared.Step.the-variants as kind;
 ghost use Rattle.step.specs.Begun as def;
-ghost use Rattle.step.specs.Begun.{Runnable, Reads, Writes};
-ghost use Rattle.step.specs.Fetch.{fetchOf, codeFetch};
+ghost use Rattle.step.specs.Begun.{Runnable, Priceable, Reads, Writes};
+ghost use Rattle.step.specs.Fetch.{refetching, fetchOf, codeFetch};
 
 // A step up to its idle cycles, and how many of them follow.
 struct Begun {
@@ -55,13 +54,44 @@ fn unanswered(clock: Clock, contents: Contents, cycles: u32, idle: u32) -> Begun
     }
 }
 
-// The price of a data access; the waits are those of the register.
-fn data_price(waitcnt: u16, waits: [[u8; 2]; 3], size: AccessSize, region: Region) -> u32
-    requires { ⌜ waits ≡ romWaits waitcnt ⌝ }
-    ensures { λ r. ⌜ r ≡ price (romWaits waitcnt) (dataBeatsIn (sramWaits waitcnt) size region) ⌝ }
+// The price of a data access at a lowered address; the waits are those of the register.
+fn data_price(
+    waitcnt: u16,
+    prev_addr: u32,
+    prev_size: u32,
+    waits: [[u8; 2]; 3],
+    size: AccessSize,
+    addr: u32,
+    region: Region,
+) -> u32
+    requires { ⌜ Priceable waitcnt (previously «prev_addr» «prev_size») waits addr region ⌝ }
+    ensures { λ r. ⌜ r ≡ price (romWaits waitcnt)
+        (dataBeatsIn (sramWaits waitcnt) size (kindAt addr (kindAfter (previously «prev_addr» «prev_size») addr)) region) ⌝ }
 {
     let register = WaitCnt { raw: waitcnt };
-    timing::data_cycles(waits, register.sram_waits(), size, region)
+    timing::data_cycles(
+        waits,
+        register.sram_waits(),
+        size,
+        addr,
+        region,
+        prev_addr,
+        prev_size,
+    )
+}
+
+// The clock after a data access, which is the previous one from now on (W-204): its address is lowered.
+fn accessed(clock: Clock, size: AccessSize, addr: u32) -> Clock
+    ensures { λ r. ⌜ r ≡ machine.withPrevious clock (previously addr (sizeBytes size)) ⌝ }
+{
+    let prefetch = clock.prefetch;
+    Clock {
+        waitcnt: clock.waitcnt,
+        force_next_fetch_n: clock.force_next_fetch_n,
+        prefetch,
+        prev_addr: addr,
+        prev_size: waits::shifted_bytes(size),
+    }
 }
 
 // READ: `read8`, `read16`, `read32`.
@@ -76,7 +106,7 @@ fn read_step(
     rom: &[u8],
     lengths: Lengths,
 ) -> Begun
-    requires { ⌜ (waits ≡ romWaits (clock .waitcnt)) × (lengthsSum lengths ≡ length (now store)) ⌝ }
+    requires { ⌜ Runnable clock waits lengths (now store) ⌝ }
     ensures { λ r. ⌜ Reads clock contents size addr lengths (now (bios .entry)) (now (rom .entry)) (now (store .entry)) r ⌝ }
 {
     let region = region::decode(addr);
@@ -84,9 +114,19 @@ fn read_step(
     let pc = contents.cpu_pc;
     let latch = contents.last_bios_opcode;
     let value = loads::read(size, target, addr, pc, latch, bios, rom, store, lengths);
-    let cycles = data_price(clock.waitcnt, waits, size, region);
+    let at = waits::aligned(size, addr);
+    let cycles = data_price(
+        clock.waitcnt,
+        clock.prev_addr,
+        clock.prev_size,
+        waits,
+        size,
+        at,
+        region,
+    );
+    let after = accessed(clock, size, at);
     Begun {
-        clock,
+        clock: after,
         idle: 0,
         cycles,
         hits: 0,
@@ -147,16 +187,26 @@ fn write_step(
     store: &mut [u8],
     lengths: Lengths,
 ) -> Begun
-    requires { ⌜ (waits ≡ romWaits (clock .waitcnt)) × (lengthsSum lengths ≡ length (now store)) ⌝ }
+    requires { ⌜ Runnable clock waits lengths (now store) ⌝ }
     ensures { λ r. ⌜ Writes clock contents size addr value lengths (now (store .entry)) r (now (store .exit)) ⌝ }
 {
     let region = region::decode(addr);
-    let cycles = data_price(clock.waitcnt, waits, size, region);
+    let at = waits::aligned(size, addr);
+    let cycles = data_price(
+        clock.waitcnt,
+        clock.prev_addr,
+        clock.prev_size,
+        waits,
+        size,
+        at,
+        region,
+    );
     let target = parts::target_in(region, addr, lengths);
     let stored = stores::write(size, target, addr, value, store, lengths);
     let counted = count_store(contents, target, stored.halfwords);
+    let after = accessed(clock, size, at);
     Begun {
-        clock,
+        clock: after,
         idle: 0,
         cycles,
         hits: (stored.landed % 256) as u8,
@@ -167,7 +217,7 @@ fn write_step(
 
 // WAITCNT: `write`, then `apply_waitcnt`.
 fn set_waitcnt(clock: Clock, value: u16) -> Clock
-    ensures { λ r. ⌜ r ≡ machine.setWaitcnt clock value ⌝ }
+    ensures { λ r. ⌜ r ≡ (machine.timed clock (kind.Waitcnt value)) .clock ⌝ }
 {
     let old = WaitCnt { raw: clock.waitcnt };
     let register = old.write(value);
@@ -177,6 +227,8 @@ fn set_waitcnt(clock: Clock, value: u16) -> Clock
         waitcnt: register.raw,
         force_next_fetch_n: clock.force_next_fetch_n,
         prefetch,
+        prev_addr: 0,
+        prev_size: 0,
     }
 }
 
@@ -187,6 +239,21 @@ fn with_prefetch(clock: Clock, prefetch: PrefetchBuffer) -> Clock
         waitcnt: clock.waitcnt,
         force_next_fetch_n: clock.force_next_fetch_n,
         prefetch,
+        prev_addr: clock.prev_addr,
+        prev_size: clock.prev_size,
+    }
+}
+
+// The same without a previous access: what goes through the buffer for opcodes clears it (W-204).
+fn refetched(clock: Clock, prefetch: PrefetchBuffer) -> Clock
+    ensures { λ r. ⌜ r ≡ refetching clock prefetch ⌝ }
+{
+    Clock {
+        waitcnt: clock.waitcnt,
+        force_next_fetch_n: clock.force_next_fetch_n,
+        prefetch,
+        prev_addr: 0,
+        prev_size: 0,
     }
 }
 
@@ -196,7 +263,7 @@ fn restarted(clock: Clock, waits: [[u8; 2]; 3], addr: u32) -> Clock
     ensures { λ r. ⌜ r ≡ (machine.timed clock (kind.Restart addr)) .clock ⌝ }
 {
     let p = clock.prefetch;
-    with_prefetch(clock, prefetch::restart(p, addr, waits))
+    refetched(clock, prefetch::restart(p, addr, waits))
 }
 
 // FETCH: `try_fetch_half`.
@@ -208,7 +275,7 @@ fn fetch_step(clock: Clock, contents: Contents, halves: &[u16; 8], addr: u32) ->
     let fetched = prefetch::try_fetch_half(p, halves, addr);
     let prefetch = fetched.prefetch;
     let half = fetched.half;
-    let after = with_prefetch(clock, prefetch);
+    let after = refetched(clock, prefetch);
     let Half::Found(value) = half else {
         return unanswered(after, contents, 0, 0);
     };
@@ -307,6 +374,8 @@ fn instruction_step(
         waitcnt: clock.waitcnt,
         force_next_fetch_n: price.latch_disable_bug,
         prefetch,
+        prev_addr: 0,
+        prev_size: 0,
     };
     Begun {
         clock: after,

@@ -6,9 +6,10 @@ use Prim.Native.Nat.{ℕ, _+_, _≤_}
 use native.Mathlib.Omega.{arith}
 use native.Mathlib.Nat.{add-zero}
 use Rattle.model.specs.Waitcnt.{Waits}
-use Rattle.model.specs.Wait.{romHalfCycles, romWordCycles, ewramCycles, videoRamCycles}
+use Rattle.model.specs.Wait.{romHalfCycles, ewramCycles, videoRamCycles}
 use Rattle.model.specs.Price.{Beat, RomBeat, EwramBeat, VideoBeat, beatCycles, price, wide, romAccess}
-use Rattle.model.specs.declared.AccessKind.the-variants.{Nonseq, Seq}
+use Rattle.model.specs.declared.AccessKind.{AccessKind}
+use Rattle.model.specs.declared.AccessKind.the-variants.{Seq}
 use Rattle.model.specs.declared.RomWindow.{RomWindow}
 use Rattle.model.specs.declared.AccessSize.{AccessSize}
 use Rattle.model.specs.declared.AccessSize.the-variants.{Byte, Half, Word}
@@ -30,9 +31,16 @@ video-beats t Byte = refl
 video-beats t Half = refl
 video-beats t Word = refl
 
--- a word from ROM is two beats
-pub rom-word : (t : Waits) (win : RomWindow) {x : ℕ} → x ≡ romWordCycles t win Nonseq → x ≡ price t (romAccess Word win)
-rom-word t win e = e ∙ two-beats t (RomBeat win Nonseq) (RomBeat win Seq) refl refl
+-- an access to ROM, by its size: one beat, and of a word a second
+module _ (t : Waits) (k : AccessKind) (win : RomWindow) (z : AccessSize) {x : ℕ} (first : x ≡ romHalfCycles t win k) where
+  pub rom-byte : z ≡ Byte → x ≡ price t (romAccess z k win)
+  rom-byte e = rw e (one-beat t (RomBeat win k) first)
+
+  pub rom-half : z ≡ Half → x ≡ price t (romAccess z k win)
+  rom-half e = rw e (one-beat t (RomBeat win k) first)
+
+  pub rom-word : z ≡ Word → {y : ℕ} → y ≡ romHalfCycles t win Seq → x + y ≡ price t (romAccess z k win)
+  rom-word e f = rw e (two-beats t (RomBeat win k) (RomBeat win Seq) first f)
 
 -- ---- sums that fit
 

@@ -11,10 +11,13 @@ use model::RomWindow;
 use model::TimingInput;
 use model::Windowed;
 ghost use mathlib.Core.Path.{_≡_};
-ghost use Rattle.model.specs.Wait.{window as windowOf};
-ghost use Rattle.model.specs.Price.{beatCycles, price, romAccess, dataBeatsIn};
+ghost use Rattle.model.specs.Region.{decode};
+ghost use Rattle.model.specs.Wait.{window as windowOf, kindAt};
+ghost use Rattle.model.specs.Price.{beatCycles, price, previously, kindAfter, romAccess, dataBeatsIn};
 ghost use Rattle.model.specs.Timing as def;
 ghost use Rattle.model.specs.Laws.Bounds.{SmallWaits};
+ghost use Rattle.model.specs.Laws.Window.{InRom};
+ghost use Rattle.model.specs.Laws.Previous.{SoundPrevious};
 ghost use Rattle.timing.specs.Fetch.{PlainPrice, fetchPrice};
 
 pub mod disable_bug;
@@ -136,20 +139,53 @@ pub fn price_insn(input: TimingInput, waits: [[u8; 2]; 3], prefetch: PrefetchBuf
     }
 }
 
-// ROM data: a byte or a half is one beat N, a word N + S.
-fn rom_data_cycles(waits: [[u8; 2]; 3], window: RomWindow, size: AccessSize) -> u32
-    ensures { λ r. ⌜ r ≡ price waits (romAccess size window) ⌝ }
+// The kind of a data access to ROM at a lowered address, from the previous one (W-204). What goes on where that ended, and begins
+// no block, lies in one block with it: the regions are the same, and need not be decoded to be compared.
+fn rom_kind_after(prev_addr: u32, prev_size: u32, addr: u32) -> AccessKind
+    requires { ⌜ SoundPrevious (previously «prev_addr» «prev_size») × InRom addr ⌝ }
+    ensures { λ r. ⌜ r ≡ kindAfter (previously «prev_addr» «prev_size») addr ⌝ }
 {
+    if prev_size == 0 {
+        return AccessKind::Nonseq;
+    }
+    waits::classify_access(prev_addr, waits::access_size(prev_size), addr, true)
+}
+
+// ROM data at a lowered address: a byte or a half is one beat, a word that and S.
+fn rom_data_cycles(
+    waits: [[u8; 2]; 3],
+    window: RomWindow,
+    size: AccessSize,
+    addr: u32,
+    prev_addr: u32,
+    prev_size: u32,
+) -> u32
+    requires { ⌜ SmallWaits waits × (SoundPrevious (previously «prev_addr» «prev_size») × InRom addr) ⌝ }
+    ensures { λ r. ⌜ r ≡ price waits
+        (romAccess size (kindAt addr (kindAfter (previously «prev_addr» «prev_size») addr)) window) ⌝ }
+{
+    let kind = rom_kind_after(prev_addr, prev_size, addr);
+    let first = waits::rom_half_cycles_at(waits, addr, window, kind);
     match size {
-        AccessSize::Byte => waits::rom_half_cycles(waits, window, AccessKind::Nonseq),
-        AccessSize::Half => waits::rom_half_cycles(waits, window, AccessKind::Nonseq),
-        AccessSize::Word => waits::rom_word_cycles(waits, window, AccessKind::Nonseq),
+        AccessSize::Byte => first,
+        AccessSize::Half => first,
+        AccessSize::Word => first + waits::rom_half_cycles(waits, window, AccessKind::Seq),
     }
 }
 
-// The price of a data access, by the region of its address; every access is taken as nonsequential.
-pub fn data_cycles(waits: [[u8; 2]; 3], sram_waits: u8, size: AccessSize, region: Region) -> u32
-    ensures { λ r. ⌜ r ≡ price waits (dataBeatsIn «sram_waits» size region) ⌝ }
+// The price of a data access, by its region, its lowered address and the previous access.
+pub fn data_cycles(
+    waits: [[u8; 2]; 3],
+    sram_waits: u8,
+    size: AccessSize,
+    addr: u32,
+    region: Region,
+    prev_addr: u32,
+    prev_size: u32,
+) -> u32
+    requires { ⌜ SmallWaits waits × (SoundPrevious (previously «prev_addr» «prev_size») × (region ≡ decode addr)) ⌝ }
+    ensures { λ r. ⌜ r ≡ price waits
+        (dataBeatsIn «sram_waits» size (kindAt addr (kindAfter (previously «prev_addr» «prev_size») addr)) region) ⌝ }
 {
     match region {
         Region::Bios => waits::fixed_fast_cycles(),
@@ -160,9 +196,30 @@ pub fn data_cycles(waits: [[u8; 2]; 3], sram_waits: u8, size: AccessSize, region
         Region::Palette => waits::video_ram_cycles(size),
         Region::Vram => waits::video_ram_cycles(size),
         Region::Oam => waits::fixed_fast_cycles(),
-        Region::GamePakRomWs0 => rom_data_cycles(waits, RomWindow::Ws0, size),
-        Region::GamePakRomWs1 => rom_data_cycles(waits, RomWindow::Ws1, size),
-        Region::GamePakRomWs2 => rom_data_cycles(waits, RomWindow::Ws2, size),
+        Region::GamePakRomWs0 => rom_data_cycles(
+            waits,
+            RomWindow::Ws0,
+            size,
+            addr,
+            prev_addr,
+            prev_size,
+        ),
+        Region::GamePakRomWs1 => rom_data_cycles(
+            waits,
+            RomWindow::Ws1,
+            size,
+            addr,
+            prev_addr,
+            prev_size,
+        ),
+        Region::GamePakRomWs2 => rom_data_cycles(
+            waits,
+            RomWindow::Ws2,
+            size,
+            addr,
+            prev_addr,
+            prev_size,
+        ),
         Region::GamePakSram => waits::sram_byte_cycles(sram_waits),
         Region::UnusedHigh => waits::fixed_fast_cycles(),
     }

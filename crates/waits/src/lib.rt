@@ -83,7 +83,7 @@ pub fn in_window(addr: u32) -> bool
     }
 }
 
-// `AccessSize::bytes`. Ported for completeness: nothing calls it yet but `classify_access`.
+// `AccessSize::bytes`.
 pub fn size_bytes(size: AccessSize) -> u32
     ensures { λ r. ⌜ r ≡ def.sizeBytes size ⌝ }
 {
@@ -92,6 +92,44 @@ pub fn size_bytes(size: AccessSize) -> u32
         AccessSize::Half => 2,
         AccessSize::Word => 4,
     }
+}
+
+// Back from the bytes, where they are 1, 2 or 4.
+pub fn access_size(bytes: u32) -> AccessSize
+    ensures { λ r. ⌜ r ≡ def.accessSize bytes ⌝ }
+{
+    if bytes == 1 {
+        return AccessSize::Byte;
+    }
+    if bytes == 2 {
+        return AccessSize::Half;
+    }
+    AccessSize::Word
+}
+
+// The power of two that a size has.
+fn size_log2(size: AccessSize) -> u32
+    ensures { λ r. ⌜ r ≡ def.sizeLog2 size ⌝ }
+{
+    match size {
+        AccessSize::Byte => 0,
+        AccessSize::Half => 1,
+        AccessSize::Word => 2,
+    }
+}
+
+// The bytes by a shift: where every data access needs them, a choice of three would be a branch that no one foretells.
+pub fn shifted_bytes(size: AccessSize) -> u32
+    ensures { λ r. ⌜ r ≡ def.sizeBytes size ⌝ }
+{
+    1u32 << size_log2(size)
+}
+
+// An address lowered to a multiple of a size.
+pub fn aligned(size: AccessSize, addr: u32) -> u32
+    ensures { λ r. ⌜ r ≡ def.aligned size addr ⌝ }
+{
+    addr - addr % shifted_bytes(size)
 }
 
 // An access takes one cycle and its waits.
@@ -119,8 +157,7 @@ pub fn nonseq_if(first: bool) -> AccessKind
     }
 }
 
-// The kind of an access that follows one of size `prev_size` at `prev_addr`. Ported for completeness: nothing calls it yet;
-// the runs of data accesses to come will.
+// The kind of an access that follows one of size `prev_size` at `prev_addr`.
 pub fn classify_access(
     prev_addr: u32,
     prev_size: AccessSize,

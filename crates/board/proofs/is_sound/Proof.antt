@@ -12,8 +12,15 @@ returns c = simp (ne-eqb _ _ (c .if1 .taken))
 returns-2 : tie.Need-returns-2
 unfolding sound
 returns-2 c =
-    let long = eq-eqb _ _ (c .before .before .before .if1 .left) in
-    simp (long, c .before .before .load-clock .ensures, c .before .sound-bytes .ensures, c .sound-prefetch .ensures)
+    let bytes = c .before .before in
+    let long = eq-eqb _ _ (bytes .before .before .if1 .left) in
+    simp (
+      long,
+      bytes .before .load-clock .ensures,
+      bytes .sound-bytes .ensures,
+      c .before .sound-prefetch .ensures,
+      c .sound-previous .ensures,
+    )
 
 pub is-sound-spec : {M : Type 1} → statement M
-is-sound-spec = tie.close (tie.spec returns (search needs) (search needs) (search needs) returns-2)
+is-sound-spec = tie.close (tie.spec returns (search needs) (search needs) (search needs) (search needs) returns-2)

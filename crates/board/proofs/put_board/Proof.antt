@@ -1,4 +1,5 @@
--- `board::put_board` meets its contract: clock, halfwords and contents stand one behind the other. Assumes nothing.
+-- `board::put_board` meets its contract: clock, halfwords, contents and previous access stand one behind the
+-- other. Assumes nothing.
 use mathlib.Core.List.{[], _∷_}
 use native.Mathlib.Omega.{arith}
 use borrow.Author.Needs.{needs}
@@ -9,8 +10,11 @@ use Rattle.board.proofs.put_board.Statement.{statement}
 use Rattle.board.proofs.put_board.Tie as tie
 
 -- the places behind each part, and the start
-abbrev contents : tie.After-slice-known4 → tie.After-put-contents
-contents c = c .before .before
+abbrev previous : tie.After-slice-known5 → tie.After-put-previous
+previous c = c .before .before
+
+abbrev contents : tie.After-put-previous → tie.After-put-contents
+contents c = c .before .before .before .before
 
 abbrev halves : tie.After-put-contents → tie.After-put-halves
 halves c = c .before .before .before .before
@@ -24,13 +28,18 @@ entry c = c .before .before .before
 returns : tie.Need-returns
 unfolding boardBytes
 returns c =
-    let three = contents c in
+    let four = previous c in
+    let three = contents four in
     let two = halves three in
     let one = clock two in
     let s = entry one in
     let middle = sized 16 (two .put-halves .ensures) (omega (arith, numbers-length 2 (s .args .halves))) in
     filled (s .args .board .now)
-    (lent (one .put-clock .ensures) ∷ middle ∷ lent (three .put-contents .ensures) ∷ [])
+    (lent (one .put-clock .ensures)
+    ∷ middle
+    ∷ lent (three .put-contents .ensures)
+    ∷ lent (four .put-previous .ensures)
+    ∷ [])
     (s .pre)
 
 pub put-board-spec : {M : Type 1} → statement M
@@ -38,4 +47,4 @@ put-board-spec =
     tie.close
     (tie.spec (search needs) (search needs) (search needs) (search needs) (search needs) (search needs)
     (search needs) (search needs) (search needs) (search needs) (search needs) (search needs)
-    (λ c. search needs) returns)
+    (search needs) (search needs) (search needs) (search needs) (λ c. search needs) returns)

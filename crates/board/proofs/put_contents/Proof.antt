@@ -1,5 +1,4 @@
--- `board::put_contents` meets its contract: two words, three counters and a zero word stand one behind the other.
--- Assumes nothing.
+-- `board::put_contents` meets its contract: two words and three counters stand one behind the other. Assumes nothing.
 use mathlib.Core.List.{[], _∷_}
 use borrow.Author.Needs.{needs}
 use Rattle.le.proofs.Written.{filled, lent}
@@ -7,11 +6,8 @@ use Rattle.board.proofs.put_contents.Statement.{statement}
 use Rattle.board.proofs.put_contents.Tie as tie
 
 -- the places behind each part, and the start
-abbrev zeros : tie.After-slice-known6 → tie.After-put32
-zeros c = c .before .before
-
-abbrev palette : tie.After-put32 → tie.After-put643
-palette c = c .before .before .before .before
+abbrev palette : tie.After-slice-known5 → tie.After-put643
+palette c = c .before .before
 
 abbrev oam : tie.After-put643 → tie.After-put642
 oam c = c .before .before .before .before
@@ -27,8 +23,7 @@ entry c = c .before .before .before
 
 returns : tie.Need-returns
 returns c =
-    let five = zeros c in
-    let four = palette five in
+    let four = palette c in
     let three = oam four in
     let two = vram three in
     let one = words two in
@@ -38,7 +33,6 @@ returns c =
     ∷ lent (two .put64 .ensures)
     ∷ lent (three .put642 .ensures)
     ∷ lent (four .put643 .ensures)
-    ∷ lent (five .put32 .ensures)
     ∷ [])
     (s .pre)
 
@@ -47,5 +41,4 @@ put-contents-spec =
     tie.close
     (tie.spec (search needs) (search needs) (search needs) (search needs) (search needs) (search needs)
     (search needs) (search needs) (search needs) (search needs) (search needs) (search needs) (search needs)
-    (search needs) (search needs) (search needs) (search needs) (search needs) (search needs) (search needs)
-    (λ c. search needs) returns)
+    (search needs) (search needs) (search needs) (λ c. search needs) returns)

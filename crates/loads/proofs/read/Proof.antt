@@ -2,7 +2,8 @@
 use mathlib.Core.Path.{sym, ap, _∙_}
 use Prim.Native.Nat.{ℕ, _%_}
 use Rattle.loads.specs.Bus.{bus}
-use Rattle.loads.proofs.Arms.{meets-lies, some-bytes}
+use Rattle.model.specs.Laws.Sizes.{some-bytes}
+use Rattle.loads.proofs.Arms.{meets-lies}
 use Rattle.loads.proofs.Words.{word-loads}
 use native.Mathlib.Omega.{arith}
 use borrow.Author.Needs.{needs}

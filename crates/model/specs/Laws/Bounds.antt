@@ -11,7 +11,7 @@ use Rattle.model.specs.Waitcnt.{Waits, nWaits, sWaits, romWaits}
 use Rattle.model.specs.Wait.{nonseqIf, romHalfCycles, ewramCycles, window}
 use Rattle.model.specs.Prefetch.{hit, fetched}
 use Rattle.model.specs.Price.{Beat, BufferBeat, RomBeat, EwramBeat, SramBeat, VideoBeat, FastBeat}
-use Rattle.model.specs.Price.{beatCycles, price, wide, dataBeatsIn, dataBeats, dataCycles}
+use Rattle.model.specs.Price.{beatCycles, price, Previous, previous, firstKind, wide, dataBeatsIn, dataBeats, dataCycles}
 use Rattle.model.specs.Timing.{internal, codeSize, halfBeat, plainBeat, fetchBeatsIn}
 use Rattle.model.specs.Timing.{fetchBeats, idleIn, cartIdle, priceInsn}
 use Rattle.model.specs.Step.{waitsOf, romHits, hitsIn, codeHits, Timed, timed}
@@ -134,27 +134,27 @@ wide-beats Byte b c r s = one-beat b r
 wide-beats Half b c r s = one-beat b r
 wide-beats Word b c r s = two-beats b c r s
 
-beats-in : (sram : ℕ) → sram ≤ 8 → (z : AccessSize) (r : Region) → Beats (dataBeatsIn sram z r)
-beats-in sram h z Bios = one-beat FastBeat tt
-beats-in sram h z UnusedLow = one-beat FastBeat tt
-beats-in sram h z Ewram = wide-beats z (EwramBeat Half) (EwramBeat Half) tt tt
-beats-in sram h z Iwram = one-beat FastBeat tt
-beats-in sram h z Io = one-beat FastBeat tt
-beats-in sram h z Palette = wide-beats z VideoBeat VideoBeat tt tt
-beats-in sram h z Vram = wide-beats z VideoBeat VideoBeat tt tt
-beats-in sram h z Oam = one-beat FastBeat tt
-beats-in sram h z GamePakRomWs0 = wide-beats z (RomBeat Ws0 Nonseq) (RomBeat Ws0 Seq) tt tt
-beats-in sram h z GamePakRomWs1 = wide-beats z (RomBeat Ws1 Nonseq) (RomBeat Ws1 Seq) tt tt
-beats-in sram h z GamePakRomWs2 = wide-beats z (RomBeat Ws2 Nonseq) (RomBeat Ws2 Seq) tt tt
-beats-in sram h z GamePakSram = one-beat (SramBeat sram) h
-beats-in sram h z UnusedHigh = one-beat FastBeat tt
+beats-in : (sram : ℕ) → sram ≤ 8 → (z : AccessSize) (k : AccessKind) (r : Region) → Beats (dataBeatsIn sram z k r)
+beats-in sram h z k Bios = one-beat FastBeat tt
+beats-in sram h z k UnusedLow = one-beat FastBeat tt
+beats-in sram h z k Ewram = wide-beats z (EwramBeat Half) (EwramBeat Half) tt tt
+beats-in sram h z k Iwram = one-beat FastBeat tt
+beats-in sram h z k Io = one-beat FastBeat tt
+beats-in sram h z k Palette = wide-beats z VideoBeat VideoBeat tt tt
+beats-in sram h z k Vram = wide-beats z VideoBeat VideoBeat tt tt
+beats-in sram h z k Oam = one-beat FastBeat tt
+beats-in sram h z k GamePakRomWs0 = wide-beats z (RomBeat Ws0 k) (RomBeat Ws0 Seq) tt tt
+beats-in sram h z k GamePakRomWs1 = wide-beats z (RomBeat Ws1 k) (RomBeat Ws1 Seq) tt tt
+beats-in sram h z k GamePakRomWs2 = wide-beats z (RomBeat Ws2 k) (RomBeat Ws2 Seq) tt tt
+beats-in sram h z k GamePakSram = one-beat (SramBeat sram) h
+beats-in sram h z k UnusedHigh = one-beat FastBeat tt
 
-pub data-beats : (w : ℕ) (z : AccessSize) (a : ℕ) → Beats (dataBeats w z a)
+pub data-beats : (w : ℕ) (p : Previous) (z : AccessSize) (a : ℕ) → Beats (dataBeats w p z a)
 unfolding dataBeats
-data-beats w z a = beats-in (nWaits w) (nWaits≤8 w) z (decode a)
+data-beats w p z a = beats-in (nWaits w) (nWaits≤8 w) z (firstKind p z a) (decode a)
 
-pub data-between : (w : ℕ) (z : AccessSize) (a : ℕ) → Between 1 18 (dataCycles w z a)
-data-between w z a = price-between (romWaits w) (romWaits-small w) (dataBeats w z a) (data-beats w z a)
+pub data-between : (w : ℕ) (p : Previous) (z : AccessSize) (a : ℕ) → Between 1 18 (dataCycles w p z a)
+data-between w p z a = price-between (romWaits w) (romWaits-small w) (dataBeats w p z a) (data-beats w p z a)
 
 -- ---- the beats of a fetch
 
@@ -238,8 +238,8 @@ hitsIn≤2 p a isa Outside = omega arith
 
 pub step-bounded : (c : Clock) (x : Step) → Bounded (weight x) (timed c x)
 unfolding priceInsn fetchBeats codeHits
-step-bounded c (Read z a) = omega (arith, data-between (c .waitcnt) z a)
-step-bounded c (Write z a v) = omega (arith, data-between (c .waitcnt) z a)
+step-bounded c (Read z a) = omega (arith, data-between (c .waitcnt) (previous c) z a)
+step-bounded c (Write z a v) = omega (arith, data-between (c .waitcnt) (previous c) z a)
 step-bounded c (Waitcnt v) = omega arith
 step-bounded c (Idle n) = omega arith
 step-bounded c (Fetch a) = omega (arith, bit≤1 (hit (c .prefetch) a))

@@ -27,7 +27,7 @@ either P true p q = p
 either P false p q = q
 
 -- the same of two choices by one test
-pub choose₂ : {A : Type 0} (P : A → A → Type 0) (t : Bool) {x y u v : A} → (t ≡ true → P x u) → (t ≡ false → P y v)
+pub choose₂ : {A B : Type 0} (P : A → B → Type 0) (t : Bool) {x y : A} {u v : B} → (t ≡ true → P x u) → (t ≡ false → P y v)
     → P (if t then x else y) (if t then u else v)
 choose₂ P true f g = f refl
 choose₂ P false f g = g refl

@@ -17,8 +17,9 @@ use borrow.Author.Tests.{eqb-true, leb-true}
 use borrow.Rule.Slice.PartMut.{putMid}
 use Rattle.model.specs.Base.{bit, sum, bytes, byteAt, number, numbersFrom, AllBytes, Field, field, encoded, numbersBytes}
 use Rattle.model.specs.Waitcnt.{prefetchEnable}
+use Rattle.model.specs.Price.{previous}
 use Rattle.model.specs.BoardBytes.{boardLength, clockOf, halvesFrom, contentsOf, boardOf, clockFields}
-use Rattle.model.specs.BoardBytes.{contentsFields, boardBytes, soundBytes, sound}
+use Rattle.model.specs.BoardBytes.{contentsFields, previousFields, boardBytes, soundBytes, sound}
 use Rattle.model.specs.Laws.Choice.{parts}
 use Rattle.model.specs.declared.Clock.{Clock}
 use Rattle.model.specs.declared.Contents.{Contents}
@@ -154,6 +155,8 @@ pub record ClockFits (c : Clock) : Type 0 where
   pub next-addr-fits : c .prefetch .«next_addr» < 2 ^ 32
   pub head-addr-fits : c .prefetch .«head_addr» < 2 ^ 32
   pub switch : c .prefetch .enabled ≡ prefetchEnable (c .waitcnt)
+  pub prev-addr-fits : c .«prev_addr» < 2 ^ 32
+  pub prev-size-fits : c .«prev_size» < 256
 
 pub record HalvesFit (h : List ℕ) : Type 0 where
   pub eight : length h ≡ 8
@@ -185,6 +188,8 @@ decoded-fits b h =
             next-addr-fits = number-below 4 12 b h;
             head-addr-fits = number-below 4 16 b h;
             switch = refl;
+            prev-addr-fits = number-below 4 68 b h;
+            prev-size-fits = h 72;
           };
       halves-fit = record { eight = refl; halves-fit = numbers-below 2 b h 20 8 };
       contents-fits =
@@ -226,15 +231,29 @@ module _ (b : Board) (eight : length (b .halves) ≡ 8) where
   unfolding boardBytes
   board-length = simp (length-append, numbers-length, eight)
 
-  past-halves : (n i : ℕ) → number n (boardBytes b) (36 + i) ≡ number n (encoded (contentsFields (b .contents))) i
+  -- what stands there
+  abbrev tail : List ℕ
+  tail = encoded (contentsFields (b .contents) ++ previousFields (previous (b .clock)))
+
+  past-halves : (n i : ℕ) → number n (boardBytes b) (36 + i) ≡ number n tail i
   unfolding boardBytes
   past-halves n i =
       let front : List ℕ = encoded (clockFields (b .clock)) ++ numbersBytes 2 (b .halves) in
       let e : 36 ≡ length front = simp (numbers-length, eight) in
-      rw e (number-past n front (encoded (contentsFields (b .contents))) i)
+      rw e (number-past n front tail i)
 
-  pub zero-word : number 4 (boardBytes b) 68 ≡ 0
-  zero-word = past-halves 4 32
+  pub zero-bytes : number 7 (boardBytes b) 73 ≡ 0
+  zero-bytes = past-halves 7 37
+
+  -- v stands in the n bytes i places past the halfwords
+  back : (n i v : ℕ) → number n tail i ≡ number n (bytes n v ++ []) 0 → v < 256 ^ n → number n (boardBytes b) (36 + i) ≡ v
+  back n i v e h = past-halves n i ∙ e ∙ number-fits n v [] h
+
+  prev-size-back : b .clock .«prev_size» < 256 → byteAt (boardBytes b) 72 ≡ b .clock .«prev_size»
+  prev-size-back h = one 72 ∙ back 1 36 (b .clock .«prev_size») refl h
+    where
+      one : (i : ℕ) → byteAt (boardBytes b) i ≡ number 1 (boardBytes b) i
+      one i = omega arith
 
 -- ---- written, then read
 
@@ -242,9 +261,9 @@ flag-back : (t : Bool) → eqb (bit t % 256) 1 ≡ t
 flag-back true = refl
 flag-back false = refl
 
-pub clock-back : (b : Board) → ClockFits (b .clock) → clockOf (boardBytes b) ≡ b .clock
+pub clock-back : (b : Board) → length (b .halves) ≡ 8 → ClockFits (b .clock) → clockOf (boardBytes b) ≡ b .clock
 unfolding clockOf boardBytes
-clock-back b k x =
+clock-back b eight k x =
     record {
       waitcnt = waitcnt-back x;
       «force_next_fetch_n» = flag-back (b .clock .«force_next_fetch_n») x;
@@ -259,6 +278,8 @@ clock-back b k x =
             filling = flag-back (b .clock .prefetch .filling) x;
             «first_beat» = flag-back (b .clock .prefetch .«first_beat») x;
           };
+      «prev_addr» = back b eight 4 32 (b .clock .«prev_addr») refl (k .prev-addr-fits) x;
+      «prev_size» = prev-size-back b eight (k .prev-size-fits) x;
     }
   where
     waitcnt-back : number 2 (bytes 2 (b .clock .waitcnt)) 0 ≡ b .clock .waitcnt
@@ -266,30 +287,23 @@ clock-back b k x =
 
 pub halves-back-in : (b : Board) → HalvesFit (b .halves) → halvesFrom (boardBytes b) 20 8 ≡ b .halves
 unfolding boardBytes
-halves-back-in b k = rw (k .eight) at (numbers-back 2 (b .halves) (encoded (contentsFields (b .contents))) (k .halves-fit))
+halves-back-in b k = rw (k .eight) at (numbers-back 2 (b .halves) (tail b (k .eight)) (k .halves-fit))
 
 pub contents-back : (b : Board) → length (b .halves) ≡ 8 → ContentsFits (b .contents) → contentsOf (boardBytes b) ≡ b .contents
 unfolding contentsOf
 contents-back b eight k x =
     record {
-      «cpu_pc» = back 4 0 (b .contents .«cpu_pc») refl (k .pc-fits) x;
-      «last_bios_opcode» = back 4 4 (b .contents .«last_bios_opcode») refl (k .opcode-fits) x;
-      «vram_write_count» = back 8 8 (b .contents .«vram_write_count») refl (k .vram-fits) x;
-      «oam_write_count» = back 8 16 (b .contents .«oam_write_count») refl (k .oam-fits) x;
-      «palette_write_count» = back 8 24 (b .contents .«palette_write_count») refl (k .palette-fits) x;
+      «cpu_pc» = back b eight 4 0 (b .contents .«cpu_pc») refl (k .pc-fits) x;
+      «last_bios_opcode» = back b eight 4 4 (b .contents .«last_bios_opcode») refl (k .opcode-fits) x;
+      «vram_write_count» = back b eight 8 8 (b .contents .«vram_write_count») refl (k .vram-fits) x;
+      «oam_write_count» = back b eight 8 16 (b .contents .«oam_write_count») refl (k .oam-fits) x;
+      «palette_write_count» = back b eight 8 24 (b .contents .«palette_write_count») refl (k .palette-fits) x;
     }
-  where
-    tail : List ℕ
-    tail = encoded (contentsFields (b .contents))
-
-    -- v stands in the n bytes i places past the halfwords
-    back : (n i v : ℕ) → number n tail i ≡ number n (bytes n v ++ []) 0 → v < 256 ^ n → number n (boardBytes b) (36 + i) ≡ v
-    back n i v e h = past-halves b eight n i ∙ e ∙ number-fits n v [] h
 
 pub decode-encode : (b : Board) → Fits b → boardOf (boardBytes b) ≡ b
 decode-encode b k x =
     record {
-      clock = clock-back b (k .clock-fits) x;
+      clock = clock-back b (k .halves-fit .eight) (k .clock-fits) x;
       halves = halves-back-in b (k .halves-fit) x;
       contents = contents-back b (k .halves-fit .eight) (k .contents-fits) x;
     }
@@ -300,7 +314,7 @@ decode-encode b k x =
 pub record WellFormed (b : List ℕ) : Type 0 where
   pub size : length b ≡ boardLength
   pub zero₇ : byteAt b 7 ≡ 0
-  pub zero₆₈ : number 4 b 68 ≡ 0
+  pub zero₇₃ : number 7 b 73 ≡ 0
   pub flag₂ : byteAt b 2 ≤ 1
   pub flag₅ : byteAt b 5 ≤ 1
   pub flag₆ : byteAt b 6 ≤ 1
@@ -310,19 +324,19 @@ unfolding sound soundBytes
 sound-formed b e =
     record {
       size = eqb-true (length b) boardLength (search parts);
-      zero₇ = eqb-true (byteAt b 7) 0 (search parts depth 7);
-      zero₆₈ = eqb-true (number 4 b 68) 0 (search parts depth 7);
-      flag₂ = leb-true (byteAt b 2) 1 (search parts);
+      zero₇ = eqb-true (byteAt b 7) 0 (search parts depth 8);
+      zero₇₃ = eqb-true (number 7 b 73) 0 (search parts depth 8);
+      flag₂ = leb-true (byteAt b 2) 1 (search parts depth 7);
       flag₅ = leb-true (byteAt b 5) 1 (search parts);
       flag₆ = leb-true (byteAt b 6) 1 (search parts);
     }
 
--- the widths of bytes 8 to 67, and of all
+-- the widths of bytes 8 to 71, and of all
 abbrev inner : List ℕ
-inner = 4 ∷ 4 ∷ 4 ∷ replicate 8 2 ++ (4 ∷ 4 ∷ 8 ∷ 8 ∷ 8 ∷ [])
+inner = 4 ∷ 4 ∷ 4 ∷ replicate 8 2 ++ (4 ∷ 4 ∷ 8 ∷ 8 ∷ 8 ∷ 4 ∷ [])
 
 abbrev widths : List ℕ
-widths = 2 ∷ replicate 6 1 ++ (inner ++ (4 ∷ []))
+widths = 2 ∷ replicate 6 1 ++ (inner ++ (1 ∷ 7 ∷ []))
 
 bit-back : (v : ℕ) → v ≤ 1 → bit (eqb v 1) ≡ v
 bit-back zero h = refl
@@ -331,7 +345,9 @@ bit-back (suc (suc v)) h = absurd (omega arith)
 
 -- the fields that are written are those that stood
 fields-read : (b : List ℕ) → WellFormed b
-    → clockFields (clockOf b) ++ (map (field 2) (halvesFrom b 20 8) ++ contentsFields (contentsOf b)) ≡ fieldsAt widths b 0
+    → clockFields (clockOf b)
+    ++ (map (field 2) (halvesFrom b 20 8) ++ (contentsFields (contentsOf b) ++ previousFields (previous (clockOf b))))
+    ≡ fieldsAt widths b 0
 unfolding clockOf contentsOf
 fields-read b k x =
     field 2 (number 2 b 0)
@@ -341,7 +357,7 @@ fields-read b k x =
     ∷ field 1 (flag 5 (k .flag₅) x)
     ∷ field 1 (flag 6 (k .flag₆) x)
     ∷ field 1 ((sym (k .zero₇) ∙ one 7) x)
-    ∷ (fieldsAt inner b 8 ++ (field 4 (sym (k .zero₆₈) x) ∷ []))
+    ∷ (fieldsAt inner b 8 ++ (field 1 (one 72 x) ∷ field 7 (sym (k .zero₇₃) x) ∷ []))
   where
     one : (i : ℕ) → byteAt b i ≡ number 1 b i
     one i = omega arith

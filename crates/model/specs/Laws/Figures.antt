@@ -8,11 +8,11 @@ use lib.ListN.{set}
 use Rattle.model.specs.Region.{decode}
 use Rattle.model.specs.Mirror.{ewramOffset, vramOffset, ioOffset}
 use Rattle.model.specs.Waitcnt.{written, prefetchEnable, nWaits, sWaits, romWaits}
-use Rattle.model.specs.Wait.{window, kindAt, romHalfCycles}
+use Rattle.model.specs.Wait.{window, aligned, kindAt, classifyAccess, romHalfCycles}
 use Rattle.model.specs.Prefetch.{setEnabled, restart, startBeat, arrived, ended, advance, ready}
 use Rattle.model.specs.Prefetch.{tick1, ticks, arrives, filled, occupied, hit, taken, fetched}
 use Rattle.model.specs.DisableBug.{armInternal, thumbInternal}
-use Rattle.model.specs.Price.{dataBeats}
+use Rattle.model.specs.Price.{kindAfter, dataBeats}
 use Rattle.model.specs.Timing.{halfBeat, plainBeat, fetchBeats, cartIdle, disableBug, priceInsn}
 use Rattle.model.specs.Video.{objVramBase, isObjVram}
 use Rattle.model.specs.Memory.{byteIn, target}
@@ -30,7 +30,7 @@ use Rattle.model.specs.declared.Step.the-variants.{Read, Write, Waitcnt,
 
 -- to unfold this is to unfold the whole machine, in four parts
 unfoldable pub clocks : Unit {0}
-unfolding written prefetchEnable nWaits sWaits romWaits window kindAt romHalfCycles
+unfolding written prefetchEnable nWaits sWaits romWaits window aligned kindAt classifyAccess romHalfCycles
     setEnabled restart startBeat arrived ended advance
 clocks = tt
 
@@ -39,7 +39,7 @@ unfolding ready tick1 ticks arrives filled occupied hit taken fetched
 buffers = tt
 
 unfoldable pub prices : Unit {0}
-unfolding armInternal thumbInternal halfBeat plainBeat fetchBeats cartIdle disableBug priceInsn dataBeats
+unfolding armInternal thumbInternal halfBeat plainBeat fetchBeats cartIdle disableBug priceInsn kindAfter dataBeats
 prices = tt
 
 unfoldable pub memories : Unit {0}

@@ -9,19 +9,21 @@ use lib.ListN.{length, length-map}
 use lib.Dec.{eqb, leb}
 use borrow.Author.Tests.{eqb-true, leb-true, eq-eqb, le-leb}
 use Rattle.model.specs.Base.{bit, sum, byteAt, number, AllBytes}
+use Rattle.model.specs.Price.{previous}
 use Rattle.model.specs.Step.{Media, State, run, timed, stepped, answer}
 use Rattle.model.specs.Sheet.{maxRecords, isShaped, recordStart, recordCount, recordAt}
 use Rattle.model.specs.Sheet.{recordsFrom, recordsOf, stepOf, stepsOf}
 use Rattle.model.specs.BoardBytes.{boardLength, clockOf, boardOf, boardBytes, freshBoard}
-use Rattle.model.specs.BoardBytes.{soundPrefetch, soundBytes, sound}
+use Rattle.model.specs.BoardBytes.{soundPrefetch, soundPrevious, soundBytes, sound}
 use Rattle.model.specs.Outcome.{Lent, LentBytes, Outcome, mediaOf, firstState, ran, outcome}
 use Rattle.model.specs.Laws.Choice.{All, choose, parts, and-true, bit≤1}
+use Rattle.model.specs.Laws.Previous.{size≤4}
 use Rattle.model.specs.Laws.Bounds.{step-bounded}
 use Rattle.model.specs.Laws.Sound.{Stands, SoundClock, clockAfter-sound, fresh-sound}
 use Rattle.model.specs.Laws.SoundTest.{sound-true, true-sound}
 use Rattle.model.specs.Laws.Run.{run-length, run-sound, run-halves}
 use Rattle.model.specs.Laws.Codec.{ClockFits, Fits, number-below, decoded-fits, clock-back}
-use Rattle.model.specs.Laws.Codec.{board-length, zero-byte, zero-word}
+use Rattle.model.specs.Laws.Codec.{board-length, zero-byte, zero-bytes}
 use Rattle.model.specs.Laws.Codec.{force-byte, filling-byte, first-byte}
 use Rattle.model.specs.Laws.Values.{MediaBytes, Held, SmallLatch, changed-fits, stepped-held}
 use Rattle.model.specs.Laws.Limits.{cycles-fit, records-length}
@@ -43,6 +45,7 @@ sound-clock b h e =
       bit13 = eqb-true (number 2 b 0 / 0x2000 % 2) 0 (search parts);
       switch = refl;
       buffer = sound-true ((clockOf b) .prefetch) (number-below 4 12 b h) (search parts);
+      previous = record { small = number-below 4 68 b h; tested = search parts };
     }
 
 -- a sound clock fits its bytes
@@ -66,13 +69,16 @@ clock-fits c k =
       next-addr-fits = k .buffer .next<2³²;
       head-addr-fits = head-fits c k;
       switch = k .switch;
+      prev-addr-fits = k .previous .small;
+      prev-size-fits = omega (arith, size≤4 (previous c) (k .previous));
     }
 
 -- a board with a sound clock is written as sound bytes
-written-bit13 : (b : Board) → SoundClock (b .clock) → eqb (number 2 (boardBytes b) 0 / 0x2000 % 2) 0 ≡ true
+written-bit13 : (b : Board) → SoundClock (b .clock) → length (b .halves) ≡ 8
+    → eqb (number 2 (boardBytes b) 0 / 0x2000 % 2) 0 ≡ true
 unfolding clockOf
-written-bit13 b k =
-    ap (λ (c : Clock). eqb (c .waitcnt / 0x2000 % 2) 0) (clock-back b (clock-fits (b .clock) k))
+written-bit13 b k eight =
+    ap (λ (c : Clock). eqb (c .waitcnt / 0x2000 % 2) 0) (clock-back b eight (clock-fits (b .clock) k))
     ∙ eq-eqb (b .clock .waitcnt / 0x2000 % 2) 0 (k .bit13)
 
 written-flag : (x : ℕ) (t : Bool) → x ≡ bit t → leb x 1 ≡ true
@@ -81,19 +87,21 @@ written-flag x t e = le-leb x 1 (rw e (bit≤1 t))
 pub written-sound : (b : Board) → SoundClock (b .clock) → length (b .halves) ≡ 8 → sound (boardBytes b) ≡ true
 unfolding sound soundBytes
 written-sound b k eight =
+    let back = clock-back b eight (clock-fits (b .clock) k) in
     and-true _ _
+    (and-true _ _
     (and-true _ _ (eq-eqb (length (boardBytes b)) boardLength (board-length b eight))
     (and-true _ _
     (and-true _ _
     (and-true _ _
     (and-true _ _
-    (and-true _ _ (eq-eqb (byteAt (boardBytes b) 7) 0 (zero-byte b)) (eq-eqb (number 4 (boardBytes b) 68) 0 (zero-word b eight)))
+    (and-true _ _ (eq-eqb (byteAt (boardBytes b) 7) 0 (zero-byte b)) (eq-eqb (number 7 (boardBytes b) 73) 0 (zero-bytes b eight)))
     (written-flag _ (b .clock .«force_next_fetch_n») (force-byte b)))
     (written-flag _ (b .clock .prefetch .filling) (filling-byte b)))
     (written-flag _ (b .clock .prefetch .«first_beat») (first-byte b)))
-    (written-bit13 b k)))
-    (ap (λ (c : Clock). soundPrefetch (c .prefetch)) (clock-back b (clock-fits (b .clock) k))
-    ∙ true-sound (b .clock .prefetch) (k .buffer))
+    (written-bit13 b k eight)))
+    (ap (λ (c : Clock). soundPrefetch (c .prefetch)) back ∙ true-sound (b .clock .prefetch) (k .buffer)))
+    (ap (λ (c : Clock). soundPrevious (previous c)) back ∙ k .previous .tested)
 
 -- the fresh board is sound
 pub fresh-board : sound (boardBytes freshBoard) ≡ true

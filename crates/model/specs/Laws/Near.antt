@@ -2,18 +2,22 @@
 -- in one memory, though each of its bytes is decoded by itself.
 use mathlib.Core.Path.{_≡_, refl, sym, _∙_, ap}
 use mathlib.Core.Bool.{Bool, true, false, not, _&&_}
-use Prim.Native.Nat.{ℕ, _+_, _-_, _*_, _/_, _%_, _≤_, _<_}
+use Prim.Native.Nat.{ℕ, _+_, _-_, _*_, _/_, _%_, _^_, _≤_, _<_}
 use native.Mathlib.Omega.{arith}
 use lib.Dec.{eqb, ltb, leb}
 use borrow.Author.Tests.{eqb-true, ltb-true, ltb-false, lt-ltb, le-ltb, leb-true, leb-false, le-leb, lt-leb}
 use Rattle.model.specs.Base.{if_then_else_, lowered}
 use Rattle.model.specs.Region.{page, decode}
 use Rattle.model.specs.Mirror.{vramOffset, ioOffset}
+use Rattle.model.specs.Wait.{aligned}
 use Rattle.model.specs.Memory.{ewramPart, iwramPart, ioPart, palettePart, vramPart}
 use Rattle.model.specs.Memory.{oamPart, sramPart, ioTarget, targetIn, target}
 use Rattle.model.specs.declared.Region.{Region}
 use Rattle.model.specs.declared.Region.the-variants.{Bios, UnusedLow, Ewram, Iwram, Io, Palette, Vram, Oam}
 use Rattle.model.specs.declared.Region.the-variants.{GamePakRomWs0, GamePakRomWs1, GamePakRomWs2, GamePakSram, UnusedHigh}
+use Rattle.model.specs.Laws.Sizes.{aligned-address}
+use Rattle.model.specs.declared.AccessSize.{AccessSize}
+use Rattle.model.specs.declared.AccessSize.the-variants.{Byte, Half, Word}
 use Rattle.model.specs.declared.Offset.{Offset}
 use Rattle.model.specs.declared.Offset.the-variants.{At, Unbacked}
 use Rattle.model.specs.declared.Lengths.{Lengths}
@@ -45,6 +49,12 @@ same-region a b h =
     let p : page b ≡ page a = omega arith in
     let t = same-ltb a b 0x4000 (λ q. omega arith) (λ q. omega arith) in
     simp (p, t)
+
+-- of a lowered address too
+pub aligned-region : (z : AccessSize) (a : ℕ) → a < 2 ^ 32 → decode (aligned z a) ≡ decode a
+aligned-region Byte a h = same-region a (aligned Byte a) (omega (arith, aligned-address a h Byte))
+aligned-region Half a h = same-region a (aligned Half a) (omega (arith, aligned-address a h Half))
+aligned-region Word a h = same-region a (aligned Word a) (omega (arith, aligned-address a h Word))
 
 -- ---- one memory
 

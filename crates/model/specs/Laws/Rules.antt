@@ -9,12 +9,13 @@ use lib.Dec.{eqb, ltb}
 use borrow.Author.Tests.{eqb-true, eq-eqb, ne-eqb, not-true, le-ltb}
 use Rattle.model.specs.Base.{if_then_else_, further, lowered}
 use Rattle.model.specs.Waitcnt.{Waits, written}
-use Rattle.model.specs.Wait.{window, inWindow, kindAt, romHalfCycles}
+use Rattle.model.specs.Wait.{window, inWindow, romHalfCycles}
 use Rattle.model.specs.Prefetch.{capacity, drained, restartIn, restart, startBeat, arrived}
 use Rattle.model.specs.Prefetch.{ended, ready, tick1, ticks, occupied, hit, fetched}
 use Rattle.model.specs.Timing.{internal, disableBug, priceInsn}
 use Rattle.model.specs.Step.{setWaitcnt, codeClock, clockAfter}
 use Rattle.model.specs.Laws.Choice.{choose, either, if-true, if-false, parts, eqb-ne}
+use Rattle.model.specs.Laws.Previous.{kindAt-nonseq}
 use Rattle.model.specs.declared.PrefetchBuffer.{PrefetchBuffer}
 use Rattle.model.specs.declared.Clock.{Clock}
 use Rattle.model.specs.declared.RomWindow.{RomWindow}
@@ -129,10 +130,6 @@ pub record TwoNonseqBeats (t : Waits) (p : PrefetchBuffer) (a : ℕ) (first seco
   pub one : (restart t p a) .«wait_left» ≡ romHalfCycles t first Nonseq
   pub two : (ended t (restart t p a)) .«wait_left» ≡ romHalfCycles t second Nonseq
   pub then-sequential : (ended t (restart t p a)) .«first_beat» ≡ false
-
-kindAt-nonseq : (a : ℕ) → kindAt a Nonseq ≡ Nonseq
-unfolding kindAt
-kindAt-nonseq a = either (λ k. k ≡ Nonseq) (eqb (a % 0x20000) 0) refl refl
 
 pub two-nonseq-beats : (t : Waits) (p : PrefetchBuffer) (a : ℕ) (first second : RomWindow)
     → p .enabled ≡ true → window a ≡ In first → window (further 2 (lowered 2 a)) ≡ In second → TwoNonseqBeats t p a first second

@@ -10,11 +10,13 @@ use Rattle.model.specs.Waitcnt.{Waits, written, prefetchEnable}
 use Rattle.model.specs.Wait.{window, inWindow, kindAt, nonseqIf, romHalfCycles}
 use Rattle.model.specs.Prefetch.{capacity, emptied, newBuffer, setEnabled, restartIn, restart, beatIn, startBeat}
 use Rattle.model.specs.Prefetch.{arrived, ended, advance, ready, tick1, ticks, occupied, hit, taken, fetched}
-use Rattle.model.specs.Step.{waitsOf, withPrefetch, setWaitcnt, romFetched, fetchedIn, codeFetched}
+use Rattle.model.specs.Price.{Previous, previous as previousOf, noAccess}
+use Rattle.model.specs.Step.{waitsOf, withPrefetch, withPrevious, setWaitcnt, romFetched, fetchedIn, codeFetched}
 use Rattle.model.specs.BoardBytes.{freshBoard}
 use Rattle.model.specs.Step.{codeClock, Timed, timed, idled, clockAfter}
 use Rattle.model.specs.Laws.Choice.{choose, either, never, tests, and-true-left, and-true-right, parts}
 use Rattle.model.specs.Laws.Window.{InRom, window-in}
+use Rattle.model.specs.Laws.Previous.{SoundPrevious, none-sound, access-sound}
 use Rattle.model.specs.Laws.Bounds.{SmallWaits, romWaits-small}
 use Rattle.model.specs.Laws.Switch.{ready-switch, ticks-switch, fetched-switch, restart-switch}
 use Rattle.model.specs.Laws.Switch.{setEnabled-switch, codeFetched-switch}
@@ -248,6 +250,7 @@ setEnabled-sound true p s =
 -- ---- the clock
 
 pub record SoundClock (c : Clock) : Type 0 where
+  pub previous : SoundPrevious (previousOf c)
   pub size : c .waitcnt < 0x1_0000
   pub bit13 : c .waitcnt / 0x2000 % 2 ≡ 0
   pub switch : c .prefetch .enabled ≡ prefetchEnable (c .waitcnt)
@@ -256,7 +259,13 @@ pub record SoundClock (c : Clock) : Type 0 where
 -- a step that changes only the buffer
 withPrefetch-sound : (c : Clock) (p : PrefetchBuffer) → SoundClock c
     → p .enabled ≡ c .prefetch .enabled → Sound p → SoundClock (withPrefetch c p)
-withPrefetch-sound c p k e s = record { size = k .size; bit13 = k .bit13; switch = e ∙ k .switch; buffer = s }
+withPrefetch-sound c p k e s =
+    record { previous = k .previous; size = k .size; bit13 = k .bit13; switch = e ∙ k .switch; buffer = s }
+
+-- one that changes only the previous access
+withPrevious-sound : (c : Clock) (p : Previous) → SoundClock c → SoundPrevious p → SoundClock (withPrevious c p)
+withPrevious-sound c p k s =
+    record { previous = s; size = k .size; bit13 = k .bit13; switch = k .switch; buffer = k .buffer }
 
 module _ (t : Waits) (small : SmallWaits t) where
   romFetched-sound : (p : PrefetchBuffer) (a : ℕ) (isa : IsaState) → Sound p → Sound (romFetched t p a isa)
@@ -278,6 +287,7 @@ setWaitcnt-sound : (c : Clock) (v : ℕ) → SoundClock c → SoundClock (setWai
 unfolding setWaitcnt written
 setWaitcnt-sound c v k =
     record {
+      previous = k .previous;
       size = omega arith;
       bit13 = omega arith;
       switch = setEnabled-switch (prefetchEnable (written (c .waitcnt) v)) (c .prefetch);
@@ -287,16 +297,20 @@ setWaitcnt-sound c v k =
 -- up to its idle cycles every step leaves a sound clock
 pub timed-sound : (c : Clock) (x : Step) → SoundClock c → SoundClock ((timed c x) .clock)
 unfolding codeClock
-timed-sound c (Read z a) k = k
-timed-sound c (Write z a v) k = k
-timed-sound c (Waitcnt v) k = setWaitcnt-sound c v k
+timed-sound c (Read z a) k = withPrevious-sound c _ k (access-sound z a)
+timed-sound c (Write z a v) k = withPrevious-sound c _ k (access-sound z a)
+timed-sound c (Waitcnt v) k = withPrevious-sound (setWaitcnt c v) noAccess (setWaitcnt-sound c v k) none-sound
 timed-sound c (Idle n) k = k
-timed-sound c (Fetch a) k = withPrefetch-sound c _ k (fetched-switch (c .prefetch) a) (fetched-sound (c .prefetch) a (k .buffer))
+timed-sound c (Fetch a) k =
+    withPrevious-sound (withPrefetch c _) noAccess
+    (withPrefetch-sound c _ k (fetched-switch (c .prefetch) a) (fetched-sound (c .prefetch) a (k .buffer))) none-sound
 timed-sound c (Restart a) k =
-    withPrefetch-sound c _ k (restart-switch (waitsOf c) (c .prefetch) a)
-    (restart-sound (waitsOf c) (romWaits-small (c .waitcnt)) (c .prefetch) a)
+    withPrevious-sound (withPrefetch c _) noAccess
+    (withPrefetch-sound c _ k (restart-switch (waitsOf c) (c .prefetch) a)
+    (restart-sound (waitsOf c) (romWaits-small (c .waitcnt)) (c .prefetch) a)) none-sound
 timed-sound c (Instruction isa a op jump) k =
     record {
+      previous = none-sound;
       size = k .size;
       bit13 = k .bit13;
       switch = codeFetched-switch c isa a ∙ k .switch;
@@ -316,4 +330,4 @@ clockAfter-sound c x k = idled-sound (timed c x) (timed-sound c x k)
 
 pub fresh-sound : SoundClock (freshBoard .clock)
 unfolding prefetchEnable
-fresh-sound = record { size = omega arith; bit13 = refl; switch = refl; buffer = emptied-sound false }
+fresh-sound = record { previous = none-sound; size = omega arith; bit13 = refl; switch = refl; buffer = emptied-sound false }

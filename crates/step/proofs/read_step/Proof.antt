@@ -1,9 +1,9 @@
--- `read_step` meets its contract: the address is decoded once, for the load and for the price. Assumes nothing.
+-- `read_step` meets its contract: the address is decoded once, for the load and for the price, and lowered once, for the price
+-- and for the clock. Assumes nothing.
 use mathlib.Core.Path.{_≡_, ap, _∙_}
-use Rattle.model.specs.Waitcnt.{romWaits, sramWaits}
+use native.Mathlib.Omega.{arith}
 use Rattle.model.specs.Memory.{targetIn, target}
-use Rattle.model.specs.Price.{price, dataBeatsIn, dataBeats}
-use Rattle.model.specs.declared.Region.{Region}
+use Rattle.step.specs.Access.{priceable, priced, remembered}
 use borrow.Author.Needs.{needs}
 use Rattle.step.proofs.read_step.Statement.{statement}
 use Rattle.step.proofs.read_step.Tie as tie
@@ -20,20 +20,26 @@ met c =
     c .target-in .ensures ∙ ap (targetIn (a .lengths) (a .addr)) (c .before .decode .ensures)
 
 read-requires : tie.Need-read-requires
-read-requires c κs = record { memory = met c; whole = start c .pre .1 }
+read-requires c κs = record { memory = met c; whole = start c .pre .whole }
+
+data-price-requires : tie.Need-data-price-requires
+data-price-requires c κs =
+    let at = c .before .before in
+    let s = start at in
+    priceable (s .args .clock) (s .args .size) (s .args .addr) (c .aligned .ensures) (at .before .decode .ensures)
+    (s .args .waits) (s .pre .sound) (s .pre .waits) (omega arith)
 
 returns : tie.Need-returns
-unfolding dataBeats
 returns c =
-    let at = c .before .before in
+    let low = c .before .before in
+    let load = low .before in
+    let at = load .before in
     let a = start at .args in
-    let priced =
-    c .data-price .ensures
-    ∙ ap (λ (r : Region). price (romWaits (a .clock .waitcnt)) (dataBeatsIn (sramWaits (a .clock .waitcnt)) (a .size) r))
-    (at .before .decode .ensures)
-    in
-    let value = c .before .read .ensures in
-    λ x. record { clock = a .clock; idle = 0; cycles = priced x; hits = 0; value = value x; contents = a .contents }
+    let region = at .before .decode .ensures in
+    let clock = remembered (a .clock) (a .size) (a .addr) (low .aligned .ensures) region (c .accessed .ensures) in
+    let cycles = priced (a .clock) (a .size) (a .addr) (low .aligned .ensures) region (c .before .data-price .ensures) in
+    let value = load .read .ensures in
+    λ x. record { clock = clock x; idle = 0; cycles = cycles x; hits = 0; value = value x; contents = a .contents }
 
 pub read-step-spec : {M : Type 1} → statement M
 read-step-spec =
@@ -42,5 +48,7 @@ read-step-spec =
     (λ c κs. search needs)
     (λ c κs. search needs)
     read-requires
+    (λ c κs. search needs)
+    data-price-requires
     (λ c κs. search needs)
     returns)

@@ -2,7 +2,7 @@
 use mathlib.Core.Path.{ap, _∙_}
 use Rattle.model.specs.Waitcnt.{Waits}
 use Rattle.model.specs.Prefetch.{restart}
-use Rattle.model.specs.Step.{withPrefetch}
+use Rattle.step.specs.Fetch.{refetching}
 use borrow.Author.Needs.{needs}
 use Rattle.step.proofs.restarted.Statement.{statement}
 use Rattle.step.proofs.restarted.Tie as tie
@@ -11,8 +11,8 @@ returns : tie.Need-returns
 returns c =
     let start = c .before .before .before in
     let a = start .args in
-    c .with-prefetch .ensures
-    ∙ ap (withPrefetch (a .clock))
+    c .refetched .ensures
+    ∙ ap (refetching (a .clock))
     (c .before .restart .ensures ∙ ap (λ (t : Waits). restart t (a .clock .prefetch) (a .addr)) (start .pre))
 
 pub restarted-spec : {M : Type 1} → statement M

@@ -1,33 +1,68 @@
--- `rom_data_cycles` meets its contract, by the size. Assumes nothing.
-use Rattle.model.specs.Price.{RomBeat}
-use Rattle.model.specs.declared.AccessKind.the-variants.{Nonseq}
-use Rattle.timing.proofs.Beats.{one-beat, rom-word}
+-- `rom_data_cycles` meets its contract: the first beat is of the kind that the previous access makes it, and a word's second is
+-- sequential. Assumes nothing.
+use mathlib.Core.Path.{_≡_, ap, _∙_}
+use native.Mathlib.Omega.{arith}
+use Rattle.model.specs.Wait.{kindAt, romHalfCycles, romHalfCyclesAt}
+use Rattle.model.specs.Price.{previously, kindAfter}
+use Rattle.model.specs.declared.AccessKind.{AccessKind}
+use Rattle.model.specs.declared.AccessKind.the-variants.{Seq}
+use Rattle.timing.proofs.Beats.{rom-byte, rom-half, rom-word}
 use borrow.Author.Needs.{needs}
 use Rattle.timing.proofs.rom_data_cycles.Statement.{statement}
 use Rattle.timing.proofs.rom_data_cycles.Tie as tie
 
+-- past the first beat: where the call began, of what kind the beat is, and what it costs
+abbrev start : tie.After-rom-half-cycles-at → tie.Start
+start c = c .before .before
+
+abbrev kind : tie.After-rom-half-cycles-at → AccessKind
+kind c = let a = start c .args in kindAt (a .addr) (kindAfter (previously (a .prev-addr) (a .prev-size)) (a .addr))
+
+first : (c : tie.After-rom-half-cycles-at)
+    → c .rom-half-cycles-at .result ≡ romHalfCycles (start c .args .waits) (start c .args .window) (kind c)
+first c =
+    let a = start c .args in
+    c .rom-half-cycles-at .ensures
+    ∙ ap (λ (k : AccessKind). romHalfCyclesAt (a .waits) (a .addr) (a .window) k) (c .before .rom-kind-after .ensures)
+
+-- a word has two beats, each of at most 9 cycles
+add-result : tie.Need-add-result
+add-result c =
+    let f = c .before .before .before in
+    let s = start f in
+    let one = s .pre .0 .small (s .args .window) (kind f) in
+    let two = s .pre .0 .small (s .args .window) Seq in
+    omega (arith, first f, c .rom-half-cycles .ensures, one, two)
+
 returns : tie.Need-returns
-returns c = simp (c .before .enum-told .given .1)
-    (let a = c .before .before .before .args in one-beat (a .waits) (RomBeat (a .window) Nonseq) (c .rom-half-cycles .ensures))
+returns c =
+    let f = c .before .before in
+    let a = start f .args in
+    rom-byte (a .waits) (kind f) (a .window) (a .size) (first f) (c .enum-told .given .1)
 
 returns-2 : tie.Need-returns-2
-returns-2 c = simp (c .before .enum-told2 .given .1)
-    (let a = c .before .before .before .args in one-beat (a .waits) (RomBeat (a .window) Nonseq) (c .rom-half-cycles2 .ensures))
+returns-2 c =
+    let f = c .before .before in
+    let a = start f .args in
+    rom-half (a .waits) (kind f) (a .window) (a .size) (first f) (c .enum-told2 .given .1)
 
 returns-3 : tie.Need-returns-3
-returns-3 c = simp (c .before .enum-told3 .given .1)
-    (let a = c .before .before .before .args in rom-word (a .waits) (a .window) (c .rom-word-cycles .ensures))
+returns-3 c =
+    let f = c .before .before .before in
+    let a = start f .args in
+    rom-word (a .waits) (kind f) (a .window) (a .size) (first f) (c .before .enum-told3 .given .1) (c .rom-half-cycles .ensures)
 
 pub rom-data-cycles-spec : {M : Type 1} → statement M
 rom-data-cycles-spec =
     tie.close
     (tie.spec
-    (λ c. search needs)
+    (λ c κs. search needs)
     (λ c κs. search needs)
     (λ c. search needs)
-    (λ c κs. search needs)
+    (λ c. search needs)
     (λ c. search needs)
     (λ c κs. search needs)
+    add-result
     returns
     returns-2
     returns-3)

@@ -29,11 +29,11 @@ returns-2 c = of-kind (seven (c .before .before)) 7 (c .before .before .if2 .tak
 
 returns-3 : tie.Need-returns-3
 unfolding stepOf
-returns-3 c = of-kind (low (c .before .before)) 1 (c .before .if4 .taken) (simp (c .access-size .ensures))
+returns-3 c = of-kind (low (c .before .before .before)) 1 (c .before .before .if4 .taken) (simp (c .access-size .ensures))
 
 returns-4 : tie.Need-returns-4
 unfolding stepOf
-returns-4 c = of-kind (low (c .before .before .before)) 2 (c .before .if5 .taken) (simp (c .access-size2 .ensures))
+returns-4 c = of-kind (low (c .before .before .before .before)) 2 (c .before .before .if5 .taken) (simp (c .access-size2 .ensures))
 
 returns-5 : tie.Need-returns-5
 unfolding stepOf
@@ -62,5 +62,5 @@ returns-10 c = past-kinds (high (c .before .before)) (omega arith)
 pub step-of-spec : {M : Type 1} → statement M
 step-of-spec =
     tie.close
-    (tie.spec returns (search needs) returns-2 (search needs) returns-3 (search needs) returns-4 returns-5
-    (search needs) returns-6 returns-7 returns-8 returns-9 returns-10)
+    (tie.spec returns (search needs) returns-2 (search needs) (search needs) returns-3 (search needs) (search needs)
+    returns-4 returns-5 (search needs) returns-6 returns-7 returns-8 returns-9 returns-10)

@@ -1,8 +1,8 @@
--- `records::sheet::access_size` meets its contract: each return decides the tests of the definition. Assumes nothing.
+-- `access_size` meets its contract: each return decides the tests of the definition. Assumes nothing.
 use borrow.Author.Tests.{ne-eqb}
-use Rattle.model.specs.Sheet.{accessSize}
-use Rattle.records.proofs.sheet.access_size.Statement.{statement}
-use Rattle.records.proofs.sheet.access_size.Tie as tie
+use Rattle.model.specs.Wait.{accessSize}
+use Rattle.waits.proofs.access_size.Statement.{statement}
+use Rattle.waits.proofs.access_size.Tie as tie
 
 returns : tie.Need-returns
 unfolding accessSize
