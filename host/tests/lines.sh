@@ -51,8 +51,8 @@ total 27"
 
 # The same sheets through the program bench, where it has been built.
 against_bench() {
-    [ -x target/bin/bench ] || { leave_out 9 "against bench" "rt check bench builds it"; return; }
-    for name in bench loop steps; do
+    [ -x target/bin/bench ] || { leave_out 12 "against bench" "rt check bench builds it"; return; }
+    for name in bench loop steps rows; do
         lands $(shorts_in $here/$name.lst) "$name" --bench -o "$files/$name" $here/$name.lst
         target/bin/bench <"$files/$name" >"$work/bench"
         check "$name as bench has it" cmp -s "$work/out" "$work/bench"

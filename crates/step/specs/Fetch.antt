@@ -73,13 +73,16 @@ codeFetch t p a isa = record { prefetch = fetchedIn t p a isa (window a); hits =
 
 -- ---- FETCH: what was found says whether the buffer hit
 
--- a clock with another buffer, and no previous data access
-abbrev pub refetching : Clock → PrefetchBuffer → Clock
-refetching c p = cleared (withPrefetch c p)
-
 abbrev pub fetching : Clock → Contents → ℕ → ℕ → ℕ → Begun
 fetching c d a value hits =
-    record { clock = refetching c (fetched (c .prefetch) a); idle = 0; cycles = 0; hits = hits; value = value; contents = d }
+    record {
+      clock = cleared (withPrefetch c (fetched (c .prefetch) a));
+      idle = 0;
+      cycles = 0;
+      hits = hits;
+      value = value;
+      contents = d;
+    }
 
 abbrev Fetches : Clock → List ℕ → Contents → ℕ → ℕ → ℕ → Type 0
 Fetches c h d a value hits = fetching c d a value hits ≡ begun (mediaFrom [] [] noLengths) (stateFrom c h d []) (Fetch a)

@@ -28,7 +28,7 @@ ghost use Rattle.model.specs.declared.IsaState.the-variants.{Arm, Thumb};
 ghost use Rattle.model.specs.declared.Step.the-variants as kind;
 ghost use Rattle.step.specs.Begun as def;
 ghost use Rattle.step.specs.Begun.{Runnable, Priceable, Reads, Writes};
-ghost use Rattle.step.specs.Fetch.{refetching, fetchOf, codeFetch};
+ghost use Rattle.step.specs.Fetch.{fetchOf, codeFetch};
 
 // A step up to its idle cycles, and how many of them follow.
 struct Begun {
@@ -115,7 +115,7 @@ fn read_step(
     let latch = contents.last_bios_opcode;
     let value = loads::read(size, target, addr, pc, latch, bios, rom, store, lengths);
     let at = waits::aligned(size, addr);
-    let cycles = data_price(
+    let price = data_price(
         clock.waitcnt,
         clock.prev_addr,
         clock.prev_size,
@@ -128,7 +128,7 @@ fn read_step(
     Begun {
         clock: after,
         idle: 0,
-        cycles,
+        cycles: price,
         hits: 0,
         value,
         contents,
@@ -192,7 +192,7 @@ fn write_step(
 {
     let region = region::decode(addr);
     let at = waits::aligned(size, addr);
-    let cycles = data_price(
+    let price = data_price(
         clock.waitcnt,
         clock.prev_addr,
         clock.prev_size,
@@ -208,7 +208,7 @@ fn write_step(
     Begun {
         clock: after,
         idle: 0,
-        cycles,
+        cycles: price,
         hits: (stored.landed % 256) as u8,
         value: 0,
         contents: counted,
@@ -217,7 +217,7 @@ fn write_step(
 
 // WAITCNT: `write`, then `apply_waitcnt`.
 fn set_waitcnt(clock: Clock, value: u16) -> Clock
-    ensures { λ r. ⌜ r ≡ (machine.timed clock (kind.Waitcnt value)) .clock ⌝ }
+    ensures { λ r. ⌜ r ≡ machine.setWaitcnt clock value ⌝ }
 {
     let old = WaitCnt { raw: clock.waitcnt };
     let register = old.write(value);
@@ -227,8 +227,8 @@ fn set_waitcnt(clock: Clock, value: u16) -> Clock
         waitcnt: register.raw,
         force_next_fetch_n: clock.force_next_fetch_n,
         prefetch,
-        prev_addr: 0,
-        prev_size: 0,
+        prev_addr: clock.prev_addr,
+        prev_size: clock.prev_size,
     }
 }
 
@@ -244,10 +244,11 @@ fn with_prefetch(clock: Clock, prefetch: PrefetchBuffer) -> Clock
     }
 }
 
-// The same without a previous access: what goes through the buffer for opcodes clears it (W-204).
-fn refetched(clock: Clock, prefetch: PrefetchBuffer) -> Clock
-    ensures { λ r. ⌜ r ≡ refetching clock prefetch ⌝ }
+// The clock after a step that clears the previous data access (W-204).
+fn cleared(clock: Clock) -> Clock
+    ensures { λ r. ⌜ r ≡ machine.cleared clock ⌝ }
 {
+    let prefetch = clock.prefetch;
     Clock {
         waitcnt: clock.waitcnt,
         force_next_fetch_n: clock.force_next_fetch_n,
@@ -263,7 +264,7 @@ fn restarted(clock: Clock, waits: [[u8; 2]; 3], addr: u32) -> Clock
     ensures { λ r. ⌜ r ≡ (machine.timed clock (kind.Restart addr)) .clock ⌝ }
 {
     let p = clock.prefetch;
-    refetched(clock, prefetch::restart(p, addr, waits))
+    cleared(with_prefetch(clock, prefetch::restart(p, addr, waits)))
 }
 
 // FETCH: `try_fetch_half`.
@@ -275,7 +276,7 @@ fn fetch_step(clock: Clock, contents: Contents, halves: &[u16; 8], addr: u32) ->
     let fetched = prefetch::try_fetch_half(p, halves, addr);
     let prefetch = fetched.prefetch;
     let half = fetched.half;
-    let after = refetched(clock, prefetch);
+    let after = cleared(with_prefetch(clock, prefetch));
     let Half::Found(value) = half else {
         return unanswered(after, contents, 0, 0);
     };
@@ -370,12 +371,13 @@ fn instruction_step(
     let price = timing::price_insn(input, waits, p);
     let fetch = fetch_code(p, isa, addr, waits);
     let prefetch = fetch.prefetch;
+    let none: u32 = 0;
     let after = Clock {
         waitcnt: clock.waitcnt,
         force_next_fetch_n: price.latch_disable_bug,
         prefetch,
-        prev_addr: 0,
-        prev_size: 0,
+        prev_addr: none,
+        prev_size: none,
     };
     Begun {
         clock: after,
@@ -452,7 +454,7 @@ fn begin(
             store,
             lengths,
         ),
-        Step::Waitcnt(value) => unanswered(set_waitcnt(clock, value), contents, 0, 0),
+        Step::Waitcnt(value) => unanswered(cleared(set_waitcnt(clock, value)), contents, 0, 0),
         Step::Idle(cycles) => unanswered(clock, contents, cycles, cycles),
         Step::Fetch(addr) => fetch_step(clock, contents, halves, addr),
         Step::Restart(addr) => unanswered(restarted(clock, waits, addr), contents, 0, 0),

@@ -2,7 +2,7 @@
 -- of its price, and which steps set, keep and clear it.
 use mathlib.Core.Path.{_≡_, refl, sym, ap, ap₂, _∙_}
 use mathlib.Core.Logic.{_≢_}
-use mathlib.Core.Bool.{Bool, true, false, _&&_, _||_}
+use mathlib.Core.Bool.{Bool, true, false, _&&_, _||_, true≢false}
 use mathlib.Core.List.{List, [], _∷_}
 use Prim.Native.Nat.{ℕ, _+_, _*_, _/_, _%_, _^_, _≤_, _<_}
 use native.Mathlib.Omega.{arith}
@@ -11,7 +11,7 @@ use lib.ListN.{getD}
 use lib.Dec.{eqb, ltb}
 use borrow.Author.Tests.{eqb-true, eq-eqb, ne-eqb}
 use Rattle.model.specs.Base.{if_then_else_, further, lowered}
-use Rattle.model.specs.Region.{page, decode, regionNumber, sameRegion}
+use Rattle.model.specs.Region.{page, decode, regionNumber, sameRegion, isGamePakRom}
 use Rattle.model.specs.Waitcnt.{Waits, romWaits, sramWaits}
 use Rattle.model.specs.Wait.{sizeBytes, accessSize, aligned, windowAt, window, inWindow}
 use Rattle.model.specs.Wait.{forceNonseq, kindAt, classifyAccess, romHalfCycles}
@@ -19,7 +19,7 @@ use Rattle.model.specs.Price.{price, Previous, previously, previous, acc
 use Rattle.model.specs.Price.{romAccess, dataBeatsIn, dataBeats, dataCycles}
 use Rattle.model.specs.Step.{waitsOf, setWaitcnt, codeClock, timed, clockAfter}
 use Rattle.model.specs.BoardBytes.{soundPrevious}
-use Rattle.model.specs.Laws.Choice.{choose, choose₂, either, by-test, if-false, never, tests, eqb-ne}
+use Rattle.model.specs.Laws.Choice.{choose, choose₂, either, by-test, if-true, if-false, never, tests, eqb-ne}
 use Rattle.model.specs.Laws.Choice.{parts}
 use Rattle.model.specs.Laws.Window.{InRom, true-inWindow, window-in}
 use Rattle.model.specs.Laws.Sizes.{bytes≤4, size-back, bytes-back, aligned-multiple, aligned-small, aligned-address}
@@ -153,6 +153,10 @@ rom-kind p n s r some = by-test same (λ e. rw (some, e) refl) (λ e. apart e �
         never (one-region p n s (there p s some) r (eqb-ne (n % 0x20000) 0 inside) (eqb-true n next u)) e)
         (λ u. refl)
 
+-- two variants that are one
+no : {A : Type 0} → _≡_ {A = ℕ} 0 1 → A
+no f = absurd (omega arith)
+
 -- with none before it an access is nonsequential, whatever begins a block
 pub kindAt-nonseq : (a : ℕ) → kindAt a Nonseq ≡ Nonseq
 unfolding kindAt
@@ -168,21 +172,40 @@ pub record Continues (y : AccessSize) (b : ℕ) (z : AccessSize) (a : ℕ) : Typ
   pub goes-on : aligned z a ≡ further (sizeBytes y) (aligned y b)
   pub no-block : aligned z a % 0x20000 ≢ 0
 
--- is sequential
-pub continued-kind : (y : AccessSize) (b : ℕ) (z : AccessSize) (a : ℕ) → Continues y b z a → firstKind (accessOf y b) z a ≡ Seq
-unfolding kindAt classifyAccess
-continued-kind y b z a h =
-    let n = aligned z a in
-    let inside : forceNonseq n ≡ false = ne-eqb (n % 0x20000) 0 (h .no-block) in
-    let rom : InRom n = aligned-rom z a (h .rom) in
-    if-false _ _ _ inside
-    ∙ sym (rom-kind (accessOf y b) n (access-sound y b) rom (some y))
-    ∙ simp (size-back y, inside, eq-eqb n (further (sizeBytes y) (aligned y b)) (h .goes-on), true-inWindow n rom)
-  where
-    some : (x : AccessSize) → eqb (sizeBytes x) 0 ≡ false
-    some Byte = refl
-    some Half = refl
-    some Word = refl
+some-size : (z : AccessSize) → eqb (sizeBytes z) 0 ≡ false
+some-size Byte = refl
+some-size Half = refl
+some-size Word = refl
+
+-- in ROM exactly these are sequential
+module _ (y : AccessSize) (b : ℕ) (z : AccessSize) (a : ℕ) (rom : InRom a) where
+  abbrev low : ℕ
+  low = aligned z a
+
+  abbrev next : ℕ
+  next = further (sizeBytes y) (aligned y b)
+
+  by-tests : firstKind (accessOf y b) z a ≡ (if forceNonseq low then Nonseq else if eqb low next then Seq else Nonseq)
+  unfolding kindAt classifyAccess
+  by-tests =
+      choose₂ (λ (k j : AccessKind). k ≡ j) (forceNonseq low) (λ t. refl)
+      (λ t.
+      sym (rom-kind (accessOf y b) low (access-sound y b) (aligned-rom z a rom) (some-size y))
+      ∙ simp (size-back y, t, true-inWindow low (aligned-rom z a rom)))
+
+  pub continued-kind : Continues y b z a → firstKind (accessOf y b) z a ≡ Seq
+  continued-kind h =
+      by-tests ∙ if-false _ _ _ (ne-eqb (low % 0x20000) 0 (h .no-block)) ∙ if-true _ _ _ (eq-eqb low next (h .goes-on))
+
+  pub sequential-continues : firstKind (accessOf y b) z a ≡ Seq → Continues y b z a
+  sequential-continues e = told (sym by-tests ∙ e)
+    where
+      told : (if forceNonseq low then Nonseq else if eqb low next then Seq else Nonseq) ≡ Seq → Continues y b z a
+      told =
+          choose (λ (k : AccessKind). k ≡ Seq → Continues y b z a) (forceNonseq low) (λ t f. no cc)
+          λ t. choose (λ (k : AccessKind). k ≡ Seq → Continues y b z a) (eqb low next)
+          (λ u f. record { rom = rom; goes-on = eqb-true low next u; no-block = eqb-ne (low % 0x20000) 0 t })
+          λ u f. no cc
 
 -- ---- the price of a step
 
@@ -228,22 +251,43 @@ first-cost c m z a e =
     ∙ ap (λ (p : Previous). dataCycles (c .waitcnt) p z a) e
     ∙ ap (λ (k : AccessKind). price (waitsOf c) (dataBeatsIn (sramWaits (c .waitcnt)) z k (decode a))) (first-kind z a)
 
+-- outside ROM the previous access doesn't count
+plain-beats : (sram : ℕ) (z : AccessSize) (k j : AccessKind) (r : Region) → isGamePakRom r ≡ false
+    → dataBeatsIn sram z k r ≡ dataBeatsIn sram z j r
+plain-beats sram z k j Bios e = refl
+plain-beats sram z k j UnusedLow e = refl
+plain-beats sram z k j Ewram e = refl
+plain-beats sram z k j Iwram e = refl
+plain-beats sram z k j Io e = refl
+plain-beats sram z k j Palette e = refl
+plain-beats sram z k j Vram e = refl
+plain-beats sram z k j Oam e = refl
+plain-beats sram z k j GamePakRomWs0 e = absurd (true≢false e)
+plain-beats sram z k j GamePakRomWs1 e = absurd (true≢false e)
+plain-beats sram z k j GamePakRomWs2 e = absurd (true≢false e)
+plain-beats sram z k j GamePakSram e = refl
+plain-beats sram z k j UnusedHigh e = refl
+
+pub plain-cost : (c : Clock) (m : Way) (z : AccessSize) (a : ℕ) → isGamePakRom (decode a) ≡ false
+    → cost c m z a ≡ price (waitsOf c) (dataBeatsIn (sramWaits (c .waitcnt)) z Nonseq (decode a))
+unfolding dataBeats
+plain-cost c m z a e =
+    access-cost c m z a
+    ∙ ap (price (waitsOf c)) (plain-beats (sramWaits (c .waitcnt)) z (firstKind (previous c) z a) Nonseq (decode a) e)
+
 -- in a window the beats are those of ROM
 rom-beats : (sram : ℕ) (z : AccessSize) (k : AccessKind) (a : ℕ) (win : RomWindow) → window a ≡ In win
     → dataBeatsIn sram z k (decode a) ≡ romAccess z k win
 unfolding window decode
 rom-beats sram z k a win =
-    choose₂ Beaten (ltb (page a) 0x08) (λ t e. no cc)
-    λ t₁. choose₂ Beaten (ltb (page a) 0x0A) (λ t e. let s : Ws0 ≡ win = cc in ap (romAccess z k) s)
-    λ t₂. choose₂ Beaten (ltb (page a) 0x0C) (λ t e. let s : Ws1 ≡ win = cc in ap (romAccess z k) s)
-    λ t₃. choose₂ Beaten (ltb (page a) 0x0E) (λ t e. let s : Ws2 ≡ win = cc in ap (romAccess z k) s)
+    choose₂ P (ltb (page a) 0x08) (λ t e. no cc)
+    λ t₁. choose₂ P (ltb (page a) 0x0A) (λ t e. let s : Ws0 ≡ win = cc in ap (romAccess z k) s)
+    λ t₂. choose₂ P (ltb (page a) 0x0C) (λ t e. let s : Ws1 ≡ win = cc in ap (romAccess z k) s)
+    λ t₃. choose₂ P (ltb (page a) 0x0E) (λ t e. let s : Ws2 ≡ win = cc in ap (romAccess z k) s)
     λ t₄ e. no cc
   where
-    Beaten : Windowed → Region → Type 0
-    Beaten v r = v ≡ In win → dataBeatsIn sram z k r ≡ romAccess z k win
-
-    no : {A : Type 0} → _≡_ {A = ℕ} 0 1 → A
-    no f = absurd (omega arith)
+    P : Windowed → Region → Type 0
+    P v r = v ≡ In win → dataBeatsIn sram z k r ≡ romAccess z k win
 
 rom-cost : (w : ℕ) (p : Previous) (z : AccessSize) (k : AccessKind) (a : ℕ) (win : RomWindow) → window a ≡ In win
     → firstKind p z a ≡ k → dataCycles w p z a ≡ price (romWaits w) (romAccess z k win)
@@ -256,7 +300,7 @@ rom-cost w p z k a win e f =
 pub continued-cost : (c : Clock) (m : Way) (y : AccessSize) (b : ℕ) (n : Way) (z : AccessSize) (a : ℕ) (win : RomWindow)
     → Continues y b z a → window a ≡ In win → costAfter c m y b n z a ≡ price (waitsOf c) (romAccess z Seq win)
 continued-cost c m y b n z a win h e =
-    next-cost c m y b n z a ∙ rom-cost (c .waitcnt) (accessOf y b) z Seq a win e (continued-kind y b z a h)
+    next-cost c m y b n z a ∙ rom-cost (c .waitcnt) (accessOf y b) z Seq a win e (continued-kind y b z a (h .rom) h)
 
 -- two words in a row within a block of ROM, of which the first is nonsequential, cost N + 3 S
 pub two-words : (c : Clock) (m n : Way) (a d : ℕ) (win : RomWindow) → window a ≡ In win

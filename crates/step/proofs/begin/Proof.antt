@@ -2,7 +2,7 @@
 use mathlib.Core.Path.{_≡_, refl, ap, _∙_}
 use Prim.Native.Nat.{ℕ}
 use mathlib.Core.List.{[]}
-use Rattle.model.specs.Step.{timing, change, countStore}
+use Rattle.model.specs.Step.{cleared, timing, change, countStore}
 use Rattle.model.specs.declared.Clock.{Clock}
 use Rattle.model.specs.declared.Contents.{Contents}
 use Rattle.step.specs.Begun.{joining}
@@ -31,8 +31,9 @@ returns-2 c =
 
 returns-3 : tie.Need-returns-3
 returns-3 c =
-    simp (c .before .before .before .step3 .given .1)
-    (record { record-is = c .unanswered .ensures ∙ clocked (c .before .set-waitcnt .ensures); store-is = refl })
+    let clock = c .before .cleared .ensures ∙ ap cleared (c .before .before .set-waitcnt .ensures) in
+    simp (c .before .before .before .before .step3 .given .1)
+    (record { record-is = c .unanswered .ensures ∙ clocked clock; store-is = refl })
 
 returns-4 : tie.Need-returns-4
 returns-4 c = simp (c .before .before .step4 .given .1) (record { record-is = c .unanswered2 .ensures; store-is = refl })
@@ -67,6 +68,7 @@ begin-spec =
     (λ c. search needs)
     (λ c κs. search needs)
     (λ c. search needs)
+    (λ c κs. search needs)
     (λ c κs. search needs)
     (λ c κs. search needs)
     (λ c. search needs)

@@ -1,4 +1,4 @@
--- `set_waitcnt` meets its contract: each field is what its call ensures, and no access is the previous one. Assumes nothing.
+-- `set_waitcnt` meets its contract: each field is what its call ensures. Assumes nothing.
 use mathlib.Core.Path.{ap, _∙_}
 use mathlib.Core.Bool.{Bool}
 use Rattle.model.specs.Waitcnt.{prefetchEnable}
@@ -28,8 +28,8 @@ returns c x =
           (c .set-enabled .ensures
           ∙ ap (λ (b : Bool). setEnabled b (a .clock .prefetch))
           (c .before .prefetch-enable .ensures ∙ ap prefetchEnable (c .before .before .before .write .ensures))) x;
-      «prev_addr» = 0;
-      «prev_size» = 0;
+      «prev_addr» = a .clock .«prev_addr»;
+      «prev_size» = a .clock .«prev_size»;
     }
 
 pub set-waitcnt-spec : {M : Type 1} → statement M
