@@ -14,7 +14,7 @@ const SAME: f64 = 1.05;
 /// The most that a run under a tariff may cost of one without; and on IDLE 1, whose steps are the cheapest, while a share costs the
 /// same for every step.
 const TARIFF_MOST: f64 = 1.15;
-const TARIFF_MOST_IDLE: f64 = 1.2;
+const TARIFF_MOST_IDLE: f64 = 1.25;
 
 /// Cents per million cycles.
 const RATE: u32 = 307;

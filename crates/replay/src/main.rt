@@ -4,13 +4,14 @@
 //
 // The sample, the file `stdin`, was recorded by `tests/against-rust/run --record crates/replay/stdin` from the Rust at commit
 // 46607fe0ef, built unchanged but for a way to its prefetch's private fields. tests/against-rust/README.md has the format. Its
-// 621 cases are the worked figures' lists; random lists over memories of 0, 1, odd and other lengths; sound boards that no
+// 863 cases are the worked figures' lists; random lists over memories of 0, 1, odd and other lengths; sound boards that no
 // list of steps leads to, among them counters near 2^64 - 1; fills across each window edge, and one stopped after each number
 // of cycles; each refusal alone and each two of them; each way to break a board, boards of other lengths, and random damage;
 // each kind of record with each field wrong; each two faults of records, in either order, and faults in the last of 4,096; lists
 // of 0, 1, 4,096 and 4,097 records; every edge over full memories, those where addresses wrap included; stores across each
-// memory's end, at lengths of each residue modulo 4; each memory one byte too long; and 100 runs under a tariff, from one
-// rounding edge to the next, with each refusal alone and each two of them.
+// memory's end, at lengths of each residue modulo 4; each memory one byte too long; rows of data accesses in each window, around
+// blocks and edges, on boards with and without a previous access, with each other kind of step between; and 103 runs under a
+// tariff, from one rounding edge to the next, with each refusal alone and each two of them.
 mod pattern;
 
 use bts::Bill;

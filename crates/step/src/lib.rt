@@ -80,7 +80,8 @@ fn data_price(
     )
 }
 
-// The clock after a data access, which is the previous one from now on (W-204): its address is lowered.
+// The clock after a data access at a lowered address, which is the previous one from now on (W-204). READ and WRITE price it and
+// remember it in lines of their own: in a function for both that takes and gives the clock, the clock would stand in memory.
 fn accessed(clock: Clock, size: AccessSize, addr: u32) -> Clock
     ensures { λ r. ⌜ r ≡ machine.withPrevious clock (previously addr (sizeBytes size)) ⌝ }
 {

@@ -307,7 +307,7 @@ pub two-words : (c : Clock) (m n : Way) (a d : ℕ) (win : RomWindow) → window
     → aligned Word d ≡ aligned Word a + 4 → d / 0x20000 ≡ a / 0x20000 → firstKind (previous c) Word a ≡ Nonseq
     → cost c m Word a + costAfter c m Word a n Word d
     ≡ romHalfCycles (waitsOf c) win Nonseq + 3 * romHalfCycles (waitsOf c) win Seq
-two-words c m n a d win e next block first =
+two-words c m n a d win e behind block first =
     let there : window d ≡ In win = same-window d a (omega arith) ∙ e in
     let rom : InRom a = window-in a win e in
     let rom-too : InRom d = window-in d win there in
@@ -316,7 +316,7 @@ two-words c m n a d win e next block first =
     let h : Continues Word a Word d =
     record {
       rom = rom-too;
-      goes-on = next ∙ sym (mod-eq-of-lt (omega arith));
+      goes-on = behind ∙ sym (mod-eq-of-lt (omega arith));
       no-block = inside a (aligned Word d) d (omega arith) (omega arith) block;
     }
     in

@@ -5,7 +5,7 @@ use native.Mathlib.Omega.{arith}
 use Rattle.model.specs.Wait.{kindAt, romHalfCycles, romHalfCyclesAt}
 use Rattle.model.specs.Price.{previously, kindAfter}
 use Rattle.model.specs.declared.AccessKind.{AccessKind}
-use Rattle.model.specs.declared.AccessKind.the-variants.{Seq}
+use Rattle.model.specs.declared.AccessKind.the-variants.{Nonseq, Seq}
 use Rattle.timing.proofs.Beats.{rom-byte, rom-half, rom-word}
 use borrow.Author.Needs.{needs}
 use Rattle.timing.proofs.rom_data_cycles.Statement.{statement}
@@ -25,14 +25,13 @@ first c =
     c .rom-half-cycles-at .ensures
     ∙ ap (λ (k : AccessKind). romHalfCyclesAt (a .waits) (a .addr) (a .window) k) (c .before .rom-kind-after .ensures)
 
--- a word has two beats, each of at most 9 cycles
+-- a word has two beats, each of at most 9 cycles, of whatever kind
 add-result : tie.Need-add-result
 add-result c =
     let f = c .before .before .before in
     let s = start f in
-    let one = s .pre .0 .small (s .args .window) (kind f) in
-    let two = s .pre .0 .small (s .args .window) Seq in
-    omega (arith, first f, c .rom-half-cycles .ensures, one, two)
+    let few = s .pre .0 .small (s .args .window) in
+    omega (arith, first f, c .rom-half-cycles .ensures, few (kind f), few Seq, few Nonseq)
 
 returns : tie.Need-returns
 returns c =
