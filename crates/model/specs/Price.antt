@@ -67,7 +67,8 @@ accessOf z a = previously (aligned z a) (sizeBytes z)
 abbrev pub noAccess : Previous
 noAccess = previously 0 0
 
--- the kind of an access at the lowered address `n`, from the previous one; with none before it, nonsequential
+-- the kind of an access at the lowered address `n`, from the previous one; with none before it, nonsequential. Departure: the
+-- data sheet has it by the opcode, sequential within an LDM or STM and nowhere else
 unfoldable pub kindAfter : Previous → ℕ → AccessKind
 kindAfter p n =
     if eqb (p .size) 0 then Nonseq
