@@ -152,7 +152,7 @@ fn rom_kind_after(prev_addr: u32, prev_size: u32, addr: u32) -> AccessKind
 }
 
 // ROM data at a lowered address: a byte or a half is one beat, a word that and S.
-fn rom_data_cycles(
+fn rom_cost(
     waits: [[u8; 2]; 3],
     window: RomWindow,
     size: AccessSize,
@@ -196,30 +196,9 @@ pub fn data_cycles(
         Region::Palette => waits::video_ram_cycles(size),
         Region::Vram => waits::video_ram_cycles(size),
         Region::Oam => waits::fixed_fast_cycles(),
-        Region::GamePakRomWs0 => rom_data_cycles(
-            waits,
-            RomWindow::Ws0,
-            size,
-            addr,
-            prev_addr,
-            prev_size,
-        ),
-        Region::GamePakRomWs1 => rom_data_cycles(
-            waits,
-            RomWindow::Ws1,
-            size,
-            addr,
-            prev_addr,
-            prev_size,
-        ),
-        Region::GamePakRomWs2 => rom_data_cycles(
-            waits,
-            RomWindow::Ws2,
-            size,
-            addr,
-            prev_addr,
-            prev_size,
-        ),
+        Region::GamePakRomWs0 => rom_cost(waits, RomWindow::Ws0, size, addr, prev_addr, prev_size),
+        Region::GamePakRomWs1 => rom_cost(waits, RomWindow::Ws1, size, addr, prev_addr, prev_size),
+        Region::GamePakRomWs2 => rom_cost(waits, RomWindow::Ws2, size, addr, prev_addr, prev_size),
         Region::GamePakSram => waits::sram_byte_cycles(sram_waits),
         Region::UnusedHigh => waits::fixed_fast_cycles(),
     }

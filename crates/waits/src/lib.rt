@@ -215,7 +215,8 @@ pub fn rom_half_cycles(waits: [[u8; 2]; 3], window: RomWindow, kind: AccessKind)
     cycles_for_waits(rom_half_waits(waits, window, kind))
 }
 
-// A word from ROM: two beats, the second sequential. The sum is over waits, which are bytes, so that it fits.
+// A word from ROM: two beats, the second sequential. The sum is over waits, which are bytes, so that it fits. Ported for
+// completeness: nothing calls it, since W-204 prices a word by its first half.
 pub fn rom_word_cycles(waits: [[u8; 2]; 3], window: RomWindow, first: AccessKind) -> u32
     ensures { λ r. ⌜ r ≡ def.romWordCycles waits window first ⌝ }
 {

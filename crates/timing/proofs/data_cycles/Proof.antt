@@ -13,16 +13,16 @@ use Rattle.timing.proofs.data_cycles.Tie as tie
 in-rom : (c : tie.Start) → isGamePakRom (c .args .region) ≡ true → InRom (c .args .addr)
 in-rom c e = rom-region (c .args .addr) (ap isGamePakRom (sym (c .pre .1 .1)) ∙ e)
 
-rom-data-cycles-requires : tie.Need-rom-data-cycles-requires
-rom-data-cycles-requires c κs =
+rom-cost-requires : tie.Need-rom-cost-requires
+rom-cost-requires c κs =
     let s = c .before .before in (s .pre .0, (s .pre .1 .0, in-rom s (ap isGamePakRom (c .enum-told9 .given .1))))
 
-rom-data-cycles-requires-2 : tie.Need-rom-data-cycles-requires-2
-rom-data-cycles-requires-2 c κs =
+rom-cost-requires-2 : tie.Need-rom-cost-requires-2
+rom-cost-requires-2 c κs =
     let s = c .before .before in (s .pre .0, (s .pre .1 .0, in-rom s (ap isGamePakRom (c .enum-told10 .given .1))))
 
-rom-data-cycles-requires-3 : tie.Need-rom-data-cycles-requires-3
-rom-data-cycles-requires-3 c κs =
+rom-cost-requires-3 : tie.Need-rom-cost-requires-3
+rom-cost-requires-3 c κs =
     let s = c .before .before in (s .pre .0, (s .pre .1 .0, in-rom s (ap isGamePakRom (c .enum-told11 .given .1))))
 
 returns : tie.Need-returns
@@ -56,13 +56,13 @@ returns-8 : tie.Need-returns-8
 returns-8 c = simp (c .before .enum-told8 .given .1) (c .fixed-fast-cycles5 .ensures)
 
 returns-9 : tie.Need-returns-9
-returns-9 c = simp (c .before .enum-told9 .given .1) (c .rom-data-cycles .ensures)
+returns-9 c = simp (c .before .enum-told9 .given .1) (c .rom-cost .ensures)
 
 returns-10 : tie.Need-returns-10
-returns-10 c = simp (c .before .enum-told10 .given .1) (c .rom-data-cycles2 .ensures)
+returns-10 c = simp (c .before .enum-told10 .given .1) (c .rom-cost2 .ensures)
 
 returns-11 : tie.Need-returns-11
-returns-11 c = simp (c .before .enum-told11 .given .1) (c .rom-data-cycles3 .ensures)
+returns-11 c = simp (c .before .enum-told11 .given .1) (c .rom-cost3 .ensures)
 
 returns-12 : tie.Need-returns-12
 returns-12 c = simp (c .before .enum-told12 .given .1)
@@ -92,11 +92,11 @@ data-cycles-spec =
     (λ c. search needs)
     (λ c κs. search needs)
     (λ c. search needs)
-    rom-data-cycles-requires
+    rom-cost-requires
     (λ c. search needs)
-    rom-data-cycles-requires-2
+    rom-cost-requires-2
     (λ c. search needs)
-    rom-data-cycles-requires-3
+    rom-cost-requires-3
     (λ c. search needs)
     (λ c κs. search needs)
     (λ c. search needs)

@@ -1,4 +1,4 @@
--- `rom_data_cycles` meets its contract: the first beat is of the kind that the previous access makes it, and a word's second is
+-- `rom_cost` meets its contract: the first beat is of the kind that the previous access makes it, and a word's second is
 -- sequential. Assumes nothing.
 use mathlib.Core.Path.{_≡_, ap, _∙_}
 use native.Mathlib.Omega.{arith}
@@ -8,8 +8,8 @@ use Rattle.model.specs.declared.AccessKind.{AccessKind}
 use Rattle.model.specs.declared.AccessKind.the-variants.{Nonseq, Seq}
 use Rattle.timing.proofs.Beats.{rom-byte, rom-half, rom-word}
 use borrow.Author.Needs.{needs}
-use Rattle.timing.proofs.rom_data_cycles.Statement.{statement}
-use Rattle.timing.proofs.rom_data_cycles.Tie as tie
+use Rattle.timing.proofs.rom_cost.Statement.{statement}
+use Rattle.timing.proofs.rom_cost.Tie as tie
 
 -- past the first beat: where the call began, of what kind the beat is, and what it costs
 abbrev start : tie.After-rom-half-cycles-at → tie.Start
@@ -51,8 +51,8 @@ returns-3 c =
     let a = start f .args in
     rom-word (a .waits) (kind f) (a .window) (a .size) (first f) (c .before .enum-told3 .given .1) (c .rom-half-cycles .ensures)
 
-pub rom-data-cycles-spec : {M : Type 1} → statement M
-rom-data-cycles-spec =
+pub rom-cost-spec : {M : Type 1} → statement M
+rom-cost-spec =
     tie.close
     (tie.spec
     (λ c κs. search needs)
