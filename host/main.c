@@ -85,11 +85,12 @@ static bool read_inputs(const struct options *options, struct job *job) {
            read_image(options->sram, BTS_SRAM_SIZE, &in[IN_SRAM]) && read_image(options->store, STORE_MOST, &in[IN_STORE]);
 }
 
-/* The machine, out of what was read. */
+/* The machine, out of what was read. That of a preview has no memories. */
 static bool make_machine(const struct options *options, struct job *job) {
     struct input *in = job->inputs;
     struct bytes *store = &in[IN_STORE].bytes;
-    if (options->store == NULL && !make_store(options->bench, options->sram != NULL ? &in[IN_SRAM].bytes : NULL, store)) {
+    enum sizes sizes = options->preview ? SIZES_NONE : options->bench ? SIZES_BENCH : SIZES_PHYSICAL;
+    if (options->store == NULL && !make_store(sizes, options->sram != NULL ? &in[IN_SRAM].bytes : NULL, store)) {
         return false;
     }
     job->machine.board = in[IN_BOARD].bytes;
@@ -109,16 +110,27 @@ static struct bytes sheet_of(const struct options *options, const struct job *jo
     return options->sheet != NULL ? job->inputs[IN_STEPS].bytes : job->sheet;
 }
 
-/* A run that isn't billed has the charge 0. */
+/* The steps of a listing, which may be more than a sheet holds. */
+static bts_report run_listing(const struct options *options, struct job *job) {
+    const uint8_t *records = job->sheet.at + BTS_HEADER_SIZE;
+    return (options->preview ? preview_records : run_records)(records, records_in(job->sheet.len), &job->machine, job->answers);
+}
+
+/* A sheet as it was read. */
+static bts_report run_read_sheet(const struct options *options, struct job *job) {
+    struct bytes sheet = sheet_of(options, job);
+    return options->preview ? preview_sheet(sheet.at, sheet.len, &job->machine, job->answers)
+                            : run_sheet(sheet.at, sheet.len, &job->machine, job->answers);
+}
+
+/* The run, or its preview. Where it isn't billed the charge is 0. */
 static bts_bill run(const struct options *options, struct job *job) {
     struct bytes sheet = sheet_of(options, job);
     if (options->rate.given) {
-        return bill_sheet(sheet.at, sheet.len, &job->machine, job->answers, job->shares, options->rate.cents);
+        return (options->preview ? preview_bill : bill_sheet)(sheet.at, sheet.len, &job->machine, job->answers, job->shares,
+                                                              options->rate.cents);
     }
-    bts_report report =
-        options->sheet != NULL
-            ? run_sheet(sheet.at, sheet.len, &job->machine, job->answers)
-            : run_records(sheet.at + BTS_HEADER_SIZE, records_in(sheet.len), &job->machine, job->answers);
+    bts_report report = (options->sheet != NULL ? run_read_sheet : run_listing)(options, job);
     return (bts_bill){report.number, report.index, report.total, 0};
 }
 
@@ -200,6 +212,16 @@ static int print(const struct options *o, const struct account *account) {
     return end_output(files ? " (the files that were asked for are written)" : "");
 }
 
+/* What the lines don't say, on standard error behind them: which stores landed short, and of a preview, of which that can't be
+ * known, what is left out. The table of a preview has that itself. */
+static void tell_rest(const struct options *options, const struct job *job, const struct account *account) {
+    if (!options->preview) {
+        tell_short(account, job->machine.lengths, options->table);
+    } else if (!options->table) {
+        tell_left_out();
+    }
+}
+
 static int price(const struct options *options, struct job *job) {
     struct trace trace;
     if (!read_inputs(options, job) || !make_machine(options, job) || !make_answers(options, job)) {
@@ -224,10 +246,11 @@ static int price(const struct options *options, struct job *job) {
         .total = bill.total,
         .charge = bill.charge,
         .trace = &trace,
+        .preview = options->preview,
     };
     int status = print(options, &account);
     if (status == DONE) {
-        tell_short(&account, job->machine.lengths, options->table);
+        tell_rest(options, job, &account);
     }
     return status;
 }

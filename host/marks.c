@@ -101,9 +101,23 @@ enum { MARKS = sizeof marks / sizeof marks[0] };
 
 _Static_assert(sizeof marks / sizeof marks[0] <= MARKS_MOST, "struct met has a place for each row");
 
+/* The lines that hang on how long the memories are, or on what the I/O memory holds. Those of the memory control word and of
+ * 0x04000204 (8 to 12) are among them: what stands there is lent, and whether a store gets there follows from the length. All
+ * other functions of the table look at the record, the board, and what is the same of an answer over any memories. */
+static bool hangs_on_memories(size_t row) {
+    static const unsigned lines[] = {8, 9, 10, 11, 12, 14, 24, 54, 57, 58, 59, 81, 82};
+    for (size_t i = 0; i < sizeof lines / sizeof lines[0]; i++) {
+        if (lines[i] == marks[row].line) {
+            return true;
+        }
+    }
+    return false;
+}
+
 void print_marks(const struct seen *seen, struct met *met) {
     for (size_t i = 0; i < MARKS; i++) {
-        if (marks[i].touches(seen)) {
+        bool can_tell = !met->preview || !hangs_on_memories(i);
+        if (can_tell && marks[i].touches(seen)) {
             printf(" D-%u", marks[i].line);
             met->row[i] = true;
         }
@@ -133,9 +147,26 @@ static void print_names(const struct met *met, unsigned count) {
     }
 }
 
+/* The lines of which a preview says nothing: they may touch a step, or not. */
+static void print_untold(void) {
+    struct met untold = {{false}, true};
+    unsigned count = 0;
+    for (size_t i = 0; i < MARKS; i++) {
+        untold.row[i] = hangs_on_memories(i);
+        count += untold.row[i];
+    }
+    fputs("a preview can't tell ", stdout);
+    print_names(&untold, count);
+    puts(": they hang on the memories");
+}
+
 void print_met(const struct met *met, uint64_t total) {
     unsigned count = print_words(met);
+    const char *none = met->preview ? "no departure that a preview can tell applies" : "no listed departure applies";
     printf("%" PRIu64 " by the model; ", total);
     print_names(met, count);
-    puts(count == 0 ? "no listed departure applies" : count == 1 ? " applies" : " apply");
+    puts(count == 0 ? none : count == 1 ? " applies" : " apply");
+    if (met->preview) {
+        print_untold();
+    }
 }

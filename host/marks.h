@@ -9,12 +9,14 @@ enum { MARKS_MOST = 128 }; /* room for the rows of the table */
 /* The marks that were met in a run, by their rows. */
 struct met {
     bool row[MARKS_MOST];
+    bool preview; /* no memories are there, so the lines that hang on them are none that can be met */
 };
 
 /* The lines that touch a step, each behind a blank, on standard output; `met` gets them too. */
 void print_marks(const struct seen *seen, struct met *met);
 
-/* What the lines that were met say, and the figure with their names. */
+/* What the lines that were met say, and the figure with their names; of a preview, then the names of those that hang on the
+ * memories. */
 void print_met(const struct met *met, uint64_t total);
 
 #endif

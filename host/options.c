@@ -36,6 +36,7 @@ static const struct option {
     {"--sheet", NULL, A_FILE_OR_STDIN, offsetof(struct options, sheet),
      "a sheet in bytes (- is standard input) instead of a listing"},
     {"--rate", NULL, A_RATE, offsetof(struct options, rate), "bills the run at these " RATE_IS},
+    {"--preview", NULL, FLAG, offsetof(struct options, preview), "prices the steps before they are run, without the memories"},
     {"-v", NULL, FLAG, offsetof(struct options, table), "a table for a person, instead of a line for each step and the total"},
     {"-o", NULL, A_FILE, offsetof(struct options, sheet_out), "writes the sheet that was run, of at most 4096 steps"},
     {"--board-out", NULL, A_FILE, offsetof(struct options, board_out), "writes the board after the run"},
@@ -118,7 +119,33 @@ static int take_option(char **argv, int i, struct options *options) {
     return 1;
 }
 
-/* Options that say the same thing in two ways. */
+/* A preview takes no memories, and leaves neither these nor a board. What asks for them is told, and not passed over: a person
+ * who names an image expects its values. */
+static bool agrees_with_preview(const struct options *o) {
+    static const char takes[] = "can't stand beside --preview, which takes no memories: leave one of the two out";
+    static const char leaves[] = "can't stand beside --preview, which leaves no board and no memories: leave one of the two out";
+    const struct {
+        bool given;
+        const char *name, *says;
+    } others[] = {
+        {o->rom != NULL, "--rom", takes},
+        {o->bios != NULL, "--bios", takes},
+        {o->sram != NULL, "--sram", takes},
+        {o->store != NULL, "--store", takes},
+        {o->bench, "--bench", takes},
+        {o->full, "--full", takes},
+        {o->board_out != NULL, "--board-out", leaves},
+        {o->sram_out != NULL, "--sram-out", leaves},
+        {o->store_out != NULL, "--store-out", leaves},
+    };
+    bool good = true;
+    for (size_t i = 0; o->preview && i < sizeof others / sizeof others[0]; i++) {
+        good = (!others[i].given || wrong(others[i].says, others[i].name)) && good;
+    }
+    return good;
+}
+
+/* Options that say the same thing in two ways, and those that a preview has no use for. */
 static bool agree(const struct options *o, const char *operand) {
     if (operand != NULL && o->sheet != NULL) {
         return wrong("is a listing beside --sheet, and only one of them can be run", operand);
@@ -129,7 +156,10 @@ static bool agree(const struct options *o, const char *operand) {
     if (o->store != NULL && (o->bench || o->full)) {
         return wrong("can't stand beside --bench or --full: a store has its own lengths", "--store");
     }
-    return !(o->bench && o->full) || wrong("can't stand beside --full: they name different sizes", "--bench");
+    if (o->bench && o->full) {
+        return wrong("can't stand beside --full: they name different sizes", "--bench");
+    }
+    return agrees_with_preview(o);
 }
 
 /* `-` is standard input, for a listing and for a sheet. */
@@ -208,6 +238,10 @@ void print_help(void) {
           "With --rate the charge stands behind the total: total * rate / 1000000 cents, rounded up to the cent and shown as "
           "money\n(307 cents are 3.07). The table then has the share of each step, and the shares add up to the charge. A "
           "charge is a\nsheet's, so at most 4096 steps can be billed.\n"
+          "With --preview nothing is run and no memories are lent. What hangs on them is left out: the values of READ and FETCH "
+          "and\nthe hits of WRITE are 0 in the lines and - in the table, which has no lines of docs/DIFFERENCES.md that hang on "
+          "them. All\nelse is that of a run, whatever its memories. What is left out is said on standard error, and by -v in the "
+          "table.\n"
           "If a store landed short (fewer bytes in a memory than it had to give), a line on standard error counts such stores; "
           "with -v\nit is followed by each of them, with the reason.\n"
           "Nothing is written on an error. Exit status: 0 done; 1 refused by the run; 2 a bad line, option or file.\n",

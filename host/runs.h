@@ -1,5 +1,5 @@
-/* The run of any number of steps: a sheet holds at most 4,096, so a longer listing is run in pieces, one behind the other on the
- * same board and store. What they give is what one run would. */
+/* The run of any number of steps, and its preview: a sheet holds at most 4,096, so a longer listing is run in pieces, one behind
+ * the other on the same board and store. What they give is what one run would. */
 #ifndef HOST_RUNS_H
 #define HOST_RUNS_H
 
@@ -15,7 +15,7 @@ struct machine {
 
 struct trace;
 
-/* A run that was accepted: a record and an answer for each step, whatever number of pieces it was run in. */
+/* A run or a preview that was accepted: a record and an answer for each step, whatever number of pieces it was run in. */
 struct account {
     const uint8_t *records; /* BTS_RECORD_SIZE bytes each */
     const uint8_t *answers; /* BTS_ANSWER_SIZE bytes each */
@@ -24,6 +24,7 @@ struct account {
     uint64_t total;
     uint64_t charge;     /* in cents */
     struct trace *trace; /* what the first step started from */
+    bool preview;        /* values of READ and FETCH and hits of WRITE are left out, and are 0 */
 };
 
 /* How many records a sheet of `len` bytes has, if it is one that is accepted. */
@@ -39,5 +40,17 @@ bts_bill bill_sheet(const uint8_t *sheet, size_t len, struct machine *machine, u
 /* Runs `count` records in pieces; answers has room for all of them. The report is as if a sheet had no limit: the index runs on
  * through the pieces, and the total is that of all. Behind a refusal, board and store are those of the pieces before it. */
 bts_report run_records(const uint8_t *records, size_t count, struct machine *machine, uint8_t *answers);
+
+/* ---- previews: of the machine they take the board alone, whatever memories it has */
+
+/* The preview of a sheet as it is. */
+bts_report preview_sheet(const uint8_t *sheet, size_t len, const struct machine *machine, uint8_t *answers);
+
+/* The same with the shares and the charge of a run; the board is then another. */
+bts_bill preview_bill(const uint8_t *sheet, size_t len, struct machine *machine, uint8_t *answers, uint8_t *shares,
+                      uint32_t rate);
+
+/* The preview of `count` records in pieces; the report is as for run_records, and the board is then another. */
+bts_report preview_records(const uint8_t *records, size_t count, struct machine *machine, uint8_t *answers);
 
 #endif

@@ -1,4 +1,4 @@
-/* What a run gave, as text. */
+/* What a run or a preview gave, as text. */
 #include "show.h"
 
 #include <stdio.h>
@@ -30,12 +30,39 @@ void print_lines(const struct account *account) {
     print_total(account);
 }
 
+/* ---- what a preview leaves out */
+
+/* Behind it goes how they are shown. */
+#define LEFT_OUT \
+    "a preview leaves out the values of READ and FETCH and the hits of WRITE, which hang on the memories: they stand as "
+
+void tell_left_out(void) {
+    complain(LEFT_OUT "0");
+}
+
+static bool has_value(const struct account *account, const uint8_t *record) {
+    return !account->preview || (record[0] != BTS_READ && record[0] != BTS_FETCH);
+}
+
+static bool has_hits(const struct account *account, const uint8_t *record) {
+    return !account->preview || record[0] != BTS_WRITE;
+}
+
+/* ---- the table */
+
 /* The marks stand behind the last column, so that a step without any ends where the sum or its share does. */
-static void print_row(size_t k, const uint8_t *record, bts_answer a, unsigned long long sum) {
-    char text[STEP_TEXT_ROOM];
+static void print_row(const struct account *account, size_t k, bts_answer a, unsigned long long sum) {
+    const uint8_t *record = account->records + BTS_RECORD_SIZE * k;
+    char text[STEP_TEXT_ROOM], value[16] = "-", hits[4] = "-";
     step_text(record, text);
-    printf("%5zu  %-29s %10lu  0x%08lX %4u %5u %5u %14llu", k, text, (unsigned long)a.cycles, (unsigned long)a.value,
-           (unsigned)a.hits, (unsigned)a.count, (unsigned)a.force, sum);
+    if (has_value(account, record)) {
+        snprintf(value, sizeof value, "0x%08lX", (unsigned long)a.value);
+    }
+    if (has_hits(account, record)) {
+        snprintf(hits, sizeof hits, "%u", (unsigned)a.hits);
+    }
+    printf("%5zu  %-29s %10lu  %-10s %4s %5u %5u %14llu", k, text, (unsigned long)a.cycles, value, hits, (unsigned)a.count,
+           (unsigned)a.force, sum);
 }
 
 /* The largest share, of 2^32 - 1 cycles at a cent each, has 11 characters. */
@@ -59,20 +86,22 @@ static void print_heading(const struct account *account) {
 
 void print_table(const struct account *account) {
     unsigned long long sum = 0;
-    struct met met = {{false}};
+    struct met met = {.preview = account->preview};
     print_heading(account);
     for (size_t k = 0; k < account->count; k++) {
-        const uint8_t *record = account->records + BTS_RECORD_SIZE * k;
         bts_answer a = bts_answer_at(account->answers, k);
         struct seen seen;
         sum += a.cycles;
-        print_row(k, record, a, sum);
+        print_row(account, k, a, sum);
         print_share(account, k);
-        trace_step(account->trace, record, a, &seen);
+        trace_step(account->trace, account->records + BTS_RECORD_SIZE * k, a, &seen);
         print_marks(&seen, &met);
         putchar('\n');
     }
     print_total(account);
+    if (account->preview) {
+        puts(LEFT_OUT "-");
+    }
     print_met(&met, account->total);
 }
 

@@ -23,13 +23,16 @@ const struct memory *memory_at(size_t i) {
     return &memories[i];
 }
 
-bool make_store(bool bench, const struct bytes *sram, struct bytes *store) {
+static size_t size_of(const struct memory *memory, enum sizes sizes) {
+    return sizes == SIZES_NONE ? 0 : sizes == SIZES_BENCH ? memory->bench : memory->physical;
+}
+
+bool make_store(enum sizes sizes, const struct bytes *sram, struct bytes *store) {
     uint8_t header[STORE_HEADER];
     memcpy(header, mark, sizeof mark);
     store->len = STORE_HEADER;
     for (size_t i = 0; i < MEMORIES; i++) {
-        size_t len = bench ? memories[i].bench : memories[i].physical;
-        len = i == SRAM && sram != NULL ? sram->len : len;
+        size_t len = i == SRAM && sram != NULL ? sram->len : size_of(&memories[i], sizes);
         bts_put32(header + sizeof mark + 4 * i, (uint32_t)len);
         store->len += len;
     }

@@ -27,8 +27,11 @@ struct memory {
 /* Memory i, below MEMORIES. */
 const struct memory *memory_at(size_t i);
 
+/* How long the memories of a store are made: as on the machine, as in document 01's program, or not there at all. */
+enum sizes { SIZES_PHYSICAL, SIZES_BENCH, SIZES_NONE };
+
 /* A store of zeros, with an SRAM image at its end if `sram` is not NULL. A failure is told on standard error. */
-bool make_store(bool bench, const struct bytes *sram, struct bytes *store);
+bool make_store(enum sizes sizes, const struct bytes *sram, struct bytes *store);
 
 /* The lengths of a store, which are the caller's to be refused by the run if one is over its memory's size. False, and told with
  * the file's name, where the bytes are no store. */

@@ -2,26 +2,29 @@
  *
  * A sheet is a list of steps as bytes. bts_run examines it, does its steps in order on a board (the machine's state outside its
  * memories) and over memories that the caller lends, and writes an answer for each step. bts_run_tariff does the same and bills
- * it: it also writes what each step's share of the charge is. host/ is a program over both.
+ * it: it also writes what each step's share of the charge is. bts_preview prices a sheet before it is run: it takes no memories,
+ * leaves the board as it is, and writes the answers without what hangs on the memories. host/ is a program over all three.
  *
  * All numbers are little endian. "ROM window" is an address from 0x08000000 to 0x0DFFFFFF.
  *
  * What the caller sees to, for the time of the call:
  *   - every pointer is valid and not null, even where its length is 0 (bts_bytes and bts_room below take NULL for "no memory");
  *   - each length is the number of bytes at its pointer; no alignment is asked for;
- *   - no two of the buffers overlap, which are six, and seven with the shares (one of length 0 overlaps nothing);
- *   - nobody else writes any of them, and nobody else reads board, store, answers and shares;
+ *   - no two of the buffers overlap, which are six, seven with the shares, and three of a preview (one of length 0 overlaps
+ *     nothing);
+ *   - nobody else writes any of them, and nobody else reads store, answers, shares and the board of a run. A preview only reads
+ *     its board, so others may read it too;
  *   - `store` is EWRAM, IWRAM, I/O, palette, VRAM, OAM and SRAM behind one another, in this order and with nothing between them;
  *     the seven lengths at the end are theirs. A length may be 0, odd, or short of the physical size.
  * These are the only rules: with them kept, a call ends and is safe whatever the buffers, the seven lengths and the rate hold,
  * and what is wrong with them is refused.
  *
  * Who owns what: the caller, everything. The library allocates nothing, keeps no pointer and no state from call to call, reads
- * and writes no file, and never writes sheet, BIOS or ROM. Threads may call it at once on different boards, stores, answers and
- * shares; they may share a sheet, a BIOS and a ROM.
+ * and writes no file, and never writes sheet, BIOS or ROM, nor the board of a preview. Threads may call it at once on different
+ * boards, stores, answers and shares; they may share a sheet, a BIOS and a ROM, and previews a board while nobody runs on it.
  *
  * The library is machine code for Linux on x86-64 (System V, ELF, 64-bit pointers); elsewhere this header is an error. With
- * BTS_NO_LIBRARY defined, neither function is declared, and the rest (layouts, names, helpers) is plain C99 or C++11 for any
+ * BTS_NO_LIBRARY defined, none of the three is declared, and the rest (layouts, names, helpers) is plain C99 or C++11 for any
  * machine: enough to make sheets and to read boards, answers and shares there. */
 #ifndef BTS_H
 #define BTS_H
@@ -31,11 +34,11 @@
 #endif
 
 /* The version of this header with its library: MAJOR rises when a caller must change, MINOR when something is added. (The version
- * of a sheet is BTS_VERSION.) With 2.0 a board grew from 72 bytes to 80: build anew what lends one, and see "the board" below for
- * those that were saved before. */
+ * of a sheet is BTS_VERSION.) With 2.1 bts_preview was added, and a caller of 2.0 need change nothing. With 2.0 a board grew from
+ * 72 bytes to 80: build anew what lends one, and see "the board" below for those that were saved before. */
 #define BTS_LIBRARY_MAJOR 2
-#define BTS_LIBRARY_MINOR 0
-#define BTS_LIBRARY_VERSION "2.0"
+#define BTS_LIBRARY_MINOR 1
+#define BTS_LIBRARY_VERSION "2.1"
 
 #include <stddef.h>
 #include <stdint.h>
@@ -57,7 +60,9 @@
  *
  * A refusal: total is 0, index is the faulty record (from 0) for BTS_FAULTY_RECORD and else 0, and every byte of board, store
  * and answers is as it was. Where several conditions are met, the lowest number is given; every record is examined before the
- * first is done. */
+ * first is done.
+ *
+ * A preview gives back the same, but the answers are all that it writes: accepted or refused, it leaves the board as it was. */
 typedef struct {
     uint32_t number;
     uint32_t index;
@@ -82,7 +87,7 @@ enum {
     BTS_BAD_MARK = 1,
     BTS_BAD_VERSION = 2,
     BTS_BAD_SHAPE = 3,
-    BTS_BAD_LENGTHS = 4,
+    BTS_BAD_LENGTHS = 4, /* not by bts_preview, which is lent no memories */
     BTS_UNSOUND_BOARD = 5,
     BTS_SHORT_ANSWERS = 6,
     BTS_FAULTY_RECORD = 7,
@@ -251,6 +256,23 @@ typedef struct {
 
 enum { BTS_MOST_RATE = 1000000 }; /* cents per million cycles */
 
+/* ---- the preview
+ *
+ * bts_preview takes a sheet and a board, and no memories. Its report and its answers are those of bts_run on a copy of the board,
+ * whatever memories that is lent, if only it accepts them. This is proved, and holds of every byte but for these, which hang on
+ * the memories and are 0:
+ *   - bytes 0-3 of the answer of a READ or a FETCH, the value;
+ *   - byte 8 of the answer of a WRITE, the hits.
+ * So the total is the run's, and so are the cycles, the prefetch count and the force flag of each step, the value of INSTRUCTION,
+ * and the hits of FETCH and INSTRUCTION.
+ *
+ * It is refused as the run is, with 1, 2, 3, 5, 6 or 7, and the lowest is given where several conditions are met. It is never
+ * refused with BTS_BAD_LENGTHS or BTS_BAD_RATE: it takes neither lengths nor a rate.
+ *
+ * It leaves no board that the preview of a further sheet could go on from. That board is had by bts_run of the first sheet on a
+ * copy, over no memories (all lengths 0): no cycle depends on them. bts_run_tariff over no memories, on a copy of the board too,
+ * gives the shares and the charge of a run over any. */
+
 /* ---- the runs */
 
 #ifndef BTS_NO_LIBRARY
@@ -274,6 +296,12 @@ bts_bill bts_run_tariff(const uint8_t *sheet, size_t sheet_len,
                         uint8_t *shares, size_t shares_len,
                         size_t ewram, size_t iwram, size_t io, size_t palette, size_t vram, size_t oam, size_t sram,
                         uint32_t rate);
+
+/* The same priced, and not run: sheet and board are only read, and answers is written. */
+BTS_FUNCTION
+bts_report bts_preview(const uint8_t *sheet, size_t sheet_len,
+                       const uint8_t *board, size_t board_len,
+                       uint8_t *answers, size_t answers_len);
 #endif
 
 /* ---- helpers, which need no library */
@@ -327,7 +355,7 @@ static inline void bts_put_record(uint8_t *sheet, size_t k, uint8_t kind, uint8_
     bts_put32(record + 8, value);
 }
 
-/* Answer k, from 0, of an accepted run. */
+/* Answer k, from 0, of an accepted run or preview. */
 static inline bts_answer bts_answer_at(const uint8_t *answers, size_t k) {
     const uint8_t *at = answers + BTS_ANSWER_SIZE * k;
     bts_answer answer;

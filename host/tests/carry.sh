@@ -139,6 +139,8 @@ late_refusal_checks() {
     check "it builds" ${CC:-cc} -std=c11 -Wall -Wextra -Wpedantic -Wconversion -Werror -Iinclude -Ihost $here/pieces.c \
         host/runs.c "$lib" -o "$work/pieces"
     check "it runs" is "$("$work/pieces")" "0 10000 10000
+7 9000 0
+0 10000 10000
 7 9000 0"
 }
 

@@ -30,7 +30,7 @@ help_checks() {
     good "--help" --help
     check "it is the same" cmp -s "$work/out" "$work/help"
     for option in '--rom FILE' '--bios FILE' '--sram FILE' '--store FILE' '--board FILE' --bench --full '--sheet FILE' \
-        '--rate CENTS' -v '-o FILE' '--board-out FILE' '--sram-out FILE' '--store-out FILE' '-h, --help' --version; do
+        '--rate CENTS' --preview -v '-o FILE' '--board-out FILE' '--sram-out FILE' '--store-out FILE' '-h, --help' --version; do
         check "$option is told" grep -q -e "^  $option   *[a-zA-Z]" "$work/help"
     done
     column_checks

@@ -1,6 +1,6 @@
 /* include/bts.h by itself, as C and as C++: the README's small sheet made with the header's helpers, over no BIOS and no ROM; the
- * same billed; the names of the refusals; the readers of a board; what lands of stores; a row of accesses over two runs; the
- * length of a board. The exit status is the number of the first thing that is wrong. */
+ * same billed, and priced before it is run; the names of the refusals; the readers of a board; what lands of stores; a row of
+ * accesses over two runs; the length of a board. The exit status is the number of the first thing that is wrong. */
 #include "bts.h"
 
 #include <string.h>
@@ -73,6 +73,30 @@ static int billed_run(void) {
         return 15;
     }
     return bts_share_at(shares, 0) == 0 && bts_share_at(shares, 1) == 2 && shares[2 * BTS_SHARE_SIZE] == 0xEE ? 0 : 16;
+}
+
+/* The small sheet before it is run: the cycles of accepted_run without its value, and a board that stays. Then a board that is no
+ * board, and no room for the answers. */
+static int previewed_run(void) {
+    uint8_t sheet[sizeof by_hand], answers[2 * BTS_ANSWER_SIZE + 1];
+    const uint8_t board[BTS_BOARD_SIZE] = {0};
+    make_sheet(sheet);
+    memset(answers, 0xEE, sizeof answers);
+    bts_report none = bts_preview(sheet, sizeof sheet, bts_bytes(NULL), 0, answers, sizeof answers);
+    if (none.number != BTS_UNSOUND_BOARD || none.index != 0 || none.total != 0 || answers[0] != 0xEE) {
+        return 24;
+    }
+    none = bts_preview(sheet, sizeof sheet, board, sizeof board, bts_room(NULL), 0);
+    if (none.number != BTS_SHORT_ANSWERS || none.index != 0 || none.total != 0) {
+        return 25;
+    }
+    bts_report report = bts_preview(sheet, sizeof sheet, board, sizeof board, answers, sizeof answers);
+    bts_answer answer = bts_answer_at(answers, 1);
+    if (report.number != BTS_OK || report.index != 2 || report.total != 3 || memcmp(sheet, by_hand, sizeof sheet) != 0) {
+        return 26;
+    }
+    int kept = answers[2 * BTS_ANSWER_SIZE] == 0xEE && bts_board_waitcnt(board) == 0;
+    return kept && answer.value == 0 && answer.cycles == 3 ? 0 : 27;
 }
 
 /* As the library lays it out. */
@@ -179,7 +203,7 @@ static int readers(void) {
 
 int main(void) {
     int results[] = {refused_run(), accepted_run(),   names(),           readers(),       stores(),
-                     billed_run(),  layout_of_bill(), row_of_accesses(), board_lengths()};
+                     billed_run(),  layout_of_bill(), row_of_accesses(), board_lengths(), previewed_run()};
     int first = 0;
     for (size_t i = 0; i < sizeof results / sizeof results[0]; i++) {
         first = first != 0 ? first : results[i];

@@ -1,4 +1,5 @@
-/* A refusal in a later piece: a listing can't bring one about, since what would be refused is no line of a listing. */
+/* A refusal in a later piece, of a run and of a preview: a listing can't bring one about, since what would be refused is no line
+ * of a listing. */
 #include <stdio.h>
 #include <string.h>
 
@@ -9,20 +10,27 @@ enum { COUNT = 10000, FAULTY = 9000 };
 static uint8_t sheet[BTS_HEADER_SIZE + BTS_RECORD_SIZE * COUNT];
 static uint8_t answers[BTS_ANSWER_SIZE * COUNT];
 
-/* A run of idle steps of a cycle each, where record `faulty` has a kind that there is none of. */
-static bts_report run_with(size_t faulty) {
+typedef bts_report in_pieces(const uint8_t *records, size_t count, struct machine *machine, uint8_t *answers);
+
+/* Idle steps of a cycle each, where record `faulty` has a kind that there is none of. */
+static bts_report done_with(size_t faulty, in_pieces *all) {
     uint8_t board[BTS_BOARD_SIZE] = {0};
     struct machine machine = {.board = {board, sizeof board}};
     for (size_t k = 0; k < COUNT; k++) {
         bts_put_record(sheet, k, k == faulty ? 99 : BTS_IDLE, 0, 0, 0, 1);
     }
-    return run_records(sheet + BTS_HEADER_SIZE, COUNT, &machine, answers);
+    return all(sheet + BTS_HEADER_SIZE, COUNT, &machine, answers);
+}
+
+static void print_both(in_pieces *all) {
+    bts_report good = done_with(COUNT, all);
+    bts_report bad = done_with(FAULTY, all);
+    printf("%u %u %u\n", (unsigned)good.number, (unsigned)good.index, (unsigned)good.total);
+    printf("%u %u %u\n", (unsigned)bad.number, (unsigned)bad.index, (unsigned)bad.total);
 }
 
 int main(void) {
-    bts_report good = run_with(COUNT);
-    bts_report bad = run_with(FAULTY);
-    printf("%u %u %u\n", (unsigned)good.number, (unsigned)good.index, (unsigned)good.total);
-    printf("%u %u %u\n", (unsigned)bad.number, (unsigned)bad.index, (unsigned)bad.total);
+    print_both(run_records);
+    print_both(preview_records);
     return 0;
 }

@@ -66,6 +66,10 @@ extern "C" {
         ewram: usize, iwram: usize, io: usize, palette: usize, vram: usize, oam: usize, sram: usize,
         rate: u32,
     ) -> Bill;
+
+    pub fn bts_preview(
+        sheet: *const u8, sheet_len: usize, board: *const u8, board_len: usize, answers: *mut u8, answers_len: usize,
+    ) -> Report;
 }
 
 /// Everything that a run gives back or may have changed. Without a tariff there are no shares, and the charge is 0.

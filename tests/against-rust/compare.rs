@@ -1,10 +1,39 @@
-//! The library's run on guarded copies of what is lent, and its comparison with the Rust's.
+//! The library's functions on guarded copies of what is lent, and the comparison of what they give with the Rust's side.
 
 use crate::bytes::*;
 use crate::tariff::shares_of;
 
 /// The memories of the store, in its order.
 pub const NAMES: [&str; 7] = ["EWRAM", "IWRAM", "I/O", "palette", "VRAM", "OAM", "SRAM"];
+
+/// A function of the library, with what it is given besides the case.
+#[derive(Clone, Copy)]
+pub enum Call<'a> {
+    Run,
+    RunTariff(&'a Tariff),
+    /// Sheet, board and answers alone are lent to it; a case that it is called for has no memories.
+    Preview,
+}
+
+impl Call<'_> {
+    /// In words.
+    pub fn name(self) -> String {
+        match self {
+            Call::Run => "bts_run".to_string(),
+            Call::RunTariff(tariff) => {
+                format!("bts_run_tariff at rate {}, {} bytes of shares", tariff.rate, tariff.shares.len())
+            }
+            Call::Preview => "bts_preview".to_string(),
+        }
+    }
+
+    fn shares(&self) -> &[u8] {
+        match self {
+            Call::RunTariff(tariff) => &tariff.shares,
+            Call::Run | Call::Preview => &[],
+        }
+    }
+}
 
 const GUARD: usize = 61; // odd, so that the lent bytes are not aligned
 
@@ -57,18 +86,19 @@ pub struct Library {
 }
 
 impl Library {
-    /// Runs the case, by `bts_run` or under a tariff; an error tells what was changed that no run may change.
-    pub fn run(&mut self, case: &Case, tariff: Option<&Tariff>) -> Result<Outcome, String> {
+    /// Does the case by one of the functions; an error tells what was changed that none of them may change.
+    pub fn run(&mut self, case: &Case, call: Call) -> Result<Outcome, String> {
         self.sheet.lend(&case.sheet);
         self.board.lend(&case.board);
         self.store.lend(&case.store);
         self.bios.lend(&case.bios);
         self.rom.lend(&case.rom);
         self.answers.lend(&case.answers);
-        self.shares.lend(tariff.map_or(&[], |tariff| &tariff.shares));
-        let report = match tariff {
-            None => self.call_run(case.lengths).into(),
-            Some(tariff) => self.call_run_tariff(case.lengths, tariff.rate),
+        self.shares.lend(call.shares());
+        let report = match call {
+            Call::Run => self.call_run(case.lengths).into(),
+            Call::RunTariff(tariff) => self.call_run_tariff(case.lengths, tariff.rate),
+            Call::Preview => self.call_preview().into(),
         };
         self.untouched(case)?;
         Ok(Outcome {
@@ -105,6 +135,14 @@ impl Library {
                 ewram, iwram, io, palette, vram, oam, sram,
                 rate,
             )
+        }
+    }
+
+    fn call_preview(&mut self) -> Report {
+        let Library { sheet, board, answers, .. } = self;
+        // as above
+        unsafe {
+            bts_preview(sheet.start(), sheet.len, board.start(), board.len, answers.start(), answers.len)
         }
     }
 
@@ -174,7 +212,7 @@ fn answer_difference(case: &Case, rust: &Outcome, library: &Outcome, i: usize) -
     )
 }
 
-/// The Rust's side of a share is the second reading's (tariff.rs).
+/// The Rust's side of a share is the second reading's (tariff.rs), as that of a preview is preview.rs's.
 fn share_difference(rust: &Outcome, library: &Outcome, i: usize) -> String {
     let k = i / SHARE;
     if rust.report.number != 0 || k >= rust.report.index as usize {
@@ -199,8 +237,8 @@ fn place_in_store(case: &Case, i: usize) -> String {
 
 // ---- telling one case in full ----
 
-pub fn tell(case: &Case, tariff: Option<&Tariff>, rust: &Outcome, library: &Outcome) {
-    println!("---- {}", function(tariff));
+pub fn tell(case: &Case, call: Call, rust: &Outcome, library: &Outcome) {
+    println!("---- {}", call.name());
     let (store, bios, rom) = (case.store.len(), case.bios.len(), case.rom.len());
     println!("lengths {:?}, store {store}, BIOS {bios}, ROM {rom}", case.lengths);
     let header = &case.sheet[..case.sheet.len().min(HEADER)];
@@ -224,14 +262,6 @@ pub fn tell(case: &Case, tariff: Option<&Tariff>, rust: &Outcome, library: &Outc
     for i in (0..case.store.len()).filter(|&i| rust.store[i] != library.store[i]).take(40) {
         let (place, r, l) = (place_in_store(case, i), rust.store[i], library.store[i]);
         println!("store byte {i} ({place}): Rust {r:#04X}, library {l:#04X}");
-    }
-}
-
-/// The function that is called, in words.
-pub fn function(tariff: Option<&Tariff>) -> String {
-    match tariff {
-        None => "bts_run".to_string(),
-        Some(tariff) => format!("bts_run_tariff at rate {}, {} bytes of shares", tariff.rate, tariff.shares.len()),
     }
 }
 

@@ -1,4 +1,5 @@
-//! What demand 3 says of one accepted run and of two: the limits on the total, the columns that agree, the shares with them.
+//! What demand 3 says of one accepted run and of two: the limits on the total, the columns that agree, the shares with them. What
+//! follows for two previews (W-205).
 
 use crate::bytes::*;
 use crate::tariff::shares_of;
@@ -35,6 +36,16 @@ fn bill_difference(a: &Outcome, b: &Outcome) -> Option<String> {
     }
     let (charge, other) = (a.report.charge, b.report.charge);
     (charge != other).then(|| format!("two alike runs have charges {charge} and {other}"))
+}
+
+/// Where two previews with alike sheets and boards differ. They show only what must agree: all answers whole, and the report.
+pub fn preview_difference(a: &Outcome, b: &Outcome) -> Option<String> {
+    if a.report != b.report {
+        return Some(format!("two alike previews give {:?} and {:?}", a.report, b.report));
+    }
+    let answers = a.answers.chunks_exact(ANSWER).zip(b.answers.chunks_exact(ANSWER)).take(a.report.index as usize);
+    let (k, (ours, other)) = answers.enumerate().find(|(_, (ours, other))| ours != other)?;
+    Some(format!("two alike previews give step {k} {ours:02X?} and {other:02X?}"))
 }
 
 /// Whether the same bytes of both stores must be written at each WRITE: the number depends on the lengths and the display mode

@@ -22,6 +22,8 @@ pub struct Plan {
     /// The number that the run must give by the way the case was made, where that is known.
     /// It holds the Rust side's refusals against a second view.
     pub meant: Option<u32>,
+    /// Where that is 4, the number that a preview must give in its place, which looks at no lengths.
+    pub behind_4: u32,
     /// The tariff that the case is made for, if it is.
     pub terms: Option<Terms>,
 }
@@ -77,8 +79,15 @@ impl Plan {
             rom_len: memories.rom,
             answers_len: ANSWER * records.len(),
             meant: Some(0),
+            behind_4: 0,
             terms: None,
         }
+    }
+
+    /// What a preview is lent of the plan.
+    pub fn without_memories(self) -> Plan {
+        let meant = self.meant_by_preview();
+        Plan { lengths: [0; 7], store_len: 0, bios_len: 0, rom_len: 0, meant, terms: None, ..self }
     }
 
     /// The plan under a tariff, for which the run must give this number.
@@ -87,18 +96,29 @@ impl Plan {
     }
 
     pub fn meant(&self) -> Meant {
-        Meant { run: self.meant, tariff: self.terms.and_then(|terms| terms.meant) }
+        Meant {
+            run: self.meant,
+            tariff: self.terms.and_then(|terms| terms.meant),
+            preview: self.meant_by_preview(),
+        }
+    }
+
+    /// The run's other conditions are the preview's too, in the same order.
+    fn meant_by_preview(&self) -> Option<u32> {
+        self.meant.map(|number| if number == 4 { self.behind_4 } else { number })
     }
 }
 
-/// The numbers that a case must give, where they are known: without a tariff, and under its own.
+/// The numbers that a case must give, where they are known: without a tariff, under its own, and by the preview.
 #[derive(Clone, Copy)]
 pub struct Meant {
     pub run: Option<u32>,
     pub tariff: Option<u32>,
+    pub preview: Option<u32>,
 }
 
-pub const ACCEPTED: Meant = Meant { run: Some(0), tariff: Some(0) };
+pub const ACCEPTED: Meant = Meant { run: Some(0), tariff: Some(0), preview: Some(0) };
+pub const UNKNOWN: Meant = Meant { run: None, tariff: None, preview: None };
 
 /// Byte i of the buffer `tag` under fill seed `seed`.
 pub fn rule_byte(seed: u32, tag: u64, i: usize) -> u8 {

@@ -1,4 +1,4 @@
-//! Compares `bts_run` and `bts_run_tariff` of libbts.a with document 01's run done by the Rust, byte for byte.
+//! Compares `bts_run`, `bts_run_tariff` and `bts_preview` of libbts.a with document 01's run done by the Rust, byte for byte.
 //! See README.md for what is compared and how to run it.
 
 mod bills;
@@ -13,19 +13,22 @@ mod landed;
 mod landings;
 mod machine;
 mod notation;
+mod preview;
+mod previews;
 mod refusals;
 mod rng;
 mod rows;
 mod sample;
 mod sample_bills;
+mod sample_previews;
 mod steps;
 mod sweeps;
 mod tariff;
 mod tariffs;
 
 use bytes::*;
-use compare::Library;
-use gen::{Meant, Plan, Rng, ACCEPTED};
+use compare::{Call, Library};
+use gen::{Meant, Plan, Rng, ACCEPTED, UNKNOWN};
 use std::time::{Duration, Instant};
 
 /// After so many differences the comparison gives up.
@@ -48,6 +51,16 @@ struct Tally {
     names: bool,
 }
 
+/// What both sides gave of a case, where they agree.
+struct Given {
+    /// By the run: under the case's own tariff, if it has one, else without.
+    run: Outcome,
+    preview: Outcome,
+}
+
+/// What is claimed of one of the two, in words.
+type Claims<'a> = (&'a str, fn(&Given) -> &Outcome);
+
 impl Tally {
     fn wants(&self, name: &str) -> bool {
         self.only.as_ref().is_none_or(|only| only == name)
@@ -62,30 +75,30 @@ impl Tally {
         println!("DIFFERENCE in case {name}: {what}");
     }
 
-    /// Runs the case twice on both sides and compares: without a tariff, and under its own or one that follows from its name.
-    /// What both gave, if they agree: under its own tariff, if it has one, else without.
-    fn case(&mut self, name: &str, case: &Case, meant: Meant) -> Option<Outcome> {
+    /// Does the case three times on both sides and compares: without a tariff, under its own or one that follows from its name,
+    /// and by the preview. What both gave, if they agree in all three.
+    fn case(&mut self, name: &str, case: &Case, meant: Meant) -> Option<Given> {
         if self.names {
             println!("case {name}");
         }
         let _told = ToldOnPanic(name);
         let rust = machine::run(case);
-        let plain = self.run(name, case, None, &rust, meant.run);
-        let Some(tariff) = &case.tariff else {
-            let tariff = bills::of_name(name, case);
-            self.run(name, case, Some(&tariff), &tariff::under(case, &tariff, &rust), None);
-            return plain;
-        };
-        let billed = self.run(name, case, Some(tariff), &tariff::under(case, tariff, &rust), meant.tariff);
-        plain.and(billed)
+        let plain = self.run(name, case, Call::Run, &rust, meant.run);
+        let tariff = case.tariff.clone().unwrap_or_else(|| bills::of_name(name, case));
+        let meant_by_own = case.tariff.as_ref().and(meant.tariff);
+        let billed = self.run(name, case, Call::RunTariff(&tariff), &tariff::under(case, &tariff, &rust), meant_by_own);
+        let lent = preview::lent(case);
+        let preview = self.run(name, &lent, Call::Preview, &preview::of(&lent, &rust), meant.preview);
+        let (plain, billed, preview) = (plain?, billed?, preview?);
+        Some(Given { run: if case.tariff.is_some() { billed } else { plain }, preview })
     }
 
-    /// Runs the case by the library, under a tariff or not, and holds it against the Rust's side; what both gave, if they agree.
+    /// Does the case by a function of the library and holds it against the Rust's side; what both gave, if they agree.
     fn run(
         &mut self,
         name: &str,
         case: &Case,
-        tariff: Option<&Tariff>,
+        call: Call,
         rust: &Outcome,
         meant: Option<u32>,
     ) -> Option<Outcome> {
@@ -95,16 +108,19 @@ impl Tally {
             _ => self.refused += 1,
         }
         self.check_rust(name, rust, meant);
-        let compared = self.library.run(case, tariff).and_then(|library| {
+        let compared = self.library.run(case, call).and_then(|library| {
             if self.only.is_some() {
-                compare::tell(case, tariff, rust, &library);
+                compare::tell(case, call, rust, &library);
             }
             let difference = compare::first_difference(case, rust, &library)
                 .or_else(|| demand3::past_limits(case, &library))
-                .or_else(|| tariff.and_then(|tariff| tariff::unfair(case, tariff, &library)));
+                .or_else(|| match call {
+                    Call::RunTariff(tariff) => tariff::unfair(case, tariff, &library),
+                    Call::Run | Call::Preview => None,
+                });
             difference.map_or(Ok(library), Err)
         });
-        compared.map_err(|what| self.differ(name, &format!("{}: {what}", compare::function(tariff)))).ok()
+        compared.map_err(|what| self.differ(name, &format!("{}: {what}", call.name()))).ok()
     }
 
     /// The Rust side against what is known beforehand: the refusal that was made, and a sound board kept.
@@ -150,6 +166,13 @@ impl Tally {
         }
     }
 
+    fn previews(&mut self) {
+        for (i, (input, run, preview)) in previews::PREVIEWS.iter().enumerate() {
+            let claims: [Claims; 2] = [(run, |given| &given.run), (preview, |given| &given.preview)];
+            self.words(&format!("preview:{i}"), input, UNKNOWN, &claims);
+        }
+    }
+
     fn differences_file(&mut self, path: &str) {
         let text = std::fs::read_to_string(path).map_err(|e| e.to_string());
         match text.and_then(|text| differences::lines_of(&text)) {
@@ -158,19 +181,27 @@ impl Tally {
         }
     }
 
-    /// An input in words: both sides must agree, and give what is claimed.
+    /// An input in words that is accepted, and what is claimed of its run.
     fn line(&mut self, name: &str, input: &str, claims: &str) {
+        self.words(name, input, ACCEPTED, &[(claims, |given| &given.run)]);
+    }
+
+    /// An input in words: both sides must agree, and give what is claimed.
+    fn words(&mut self, name: &str, input: &str, meant: Meant, claims: &[Claims]) {
         if self.full() || !self.wants(name) {
             return;
         }
-        let result = notation::case_of(input).and_then(|case| {
-            let Some(library) = self.case(name, &case, ACCEPTED) else { return Ok(0) };
-            // the two agree, so that one of them stands for both
-            notation::check(claims, &case, &library)
-        });
-        match result {
-            Ok(held) => self.claims += held,
-            Err(what) => self.differ(name, &format!("{what} ({input} → {claims})")),
+        let case = match notation::case_of(input) {
+            Ok(case) => case,
+            Err(what) => return self.differ(name, &format!("{what} ({input})")),
+        };
+        let Some(given) = self.case(name, &case, meant) else { return };
+        for (claims, of) in claims {
+            // the two sides agree, so that one of them stands for both
+            match notation::check(claims, &case, of(&given)) {
+                Ok(held) => self.claims += held,
+                Err(what) => self.differ(name, &format!("{what} ({input} → {claims})")),
+            }
         }
     }
 
@@ -185,10 +216,9 @@ impl Tally {
     }
 
     fn sample(&mut self) {
-        let plans = sample::plans();
-        for (i, plan) in plans.iter().enumerate() {
+        for (i, entry) in sample::entries().iter().enumerate() {
             if !self.full() {
-                self.plan(&format!("sample:{i}"), plan, || sample::case_at(&plans, i));
+                self.plan(&format!("sample:{i}"), &entry.plan, || entry.case(i));
             }
         }
     }
@@ -204,7 +234,7 @@ impl Tally {
         self.case(&format!("bill:{seed}"), &case, plan.meant());
     }
 
-    /// Demand 3 on two runs.
+    /// Demand 3 on two runs, and what follows for two previews.
     fn pair(&mut self, seed: u64) {
         let name = format!("pair:{seed}");
         let (first, second) = gen::pair(seed);
@@ -212,7 +242,9 @@ impl Tally {
         let b = self.case(&name, &second, ACCEPTED);
         self.pairs += 1;
         let (Some(a), Some(b)) = (a, b) else { return };
-        if let Some(what) = demand3::pair_difference(&first, &second, &a, &b) {
+        let of_runs = demand3::pair_difference(&first, &second, &a.run, &b.run);
+        let of_previews = demand3::preview_difference(&a.preview, &b.preview);
+        for what in of_runs.into_iter().chain(of_previews) {
             self.differ(&name, &what);
         }
     }
@@ -249,7 +281,8 @@ const USAGE: &str = "usage: run [--names] [SECONDS] | SECONDS --from SEED | --ca
 --names: name each case before it is run
 SECONDS: for the random part, 100 if not given
 --from: the random part alone, from this seed on
-NAME: random:SEED (or SEED alone), pair:SEED, bill:SEED, sweep:N, sample:N, figure:N, landing:N, tariff:N, row:N, D-N.K";
+NAME: random:SEED (or SEED alone), pair:SEED, bill:SEED, sweep:N, sample:N, figure:N, landing:N, tariff:N, row:N, preview:N,
+    D-N.K";
 
 fn order(words: &[String]) -> Option<Order> {
     let words: Vec<&str> = words.iter().map(String::as_str).collect();
@@ -292,6 +325,7 @@ fn compare_all(tally: &mut Tally, seconds: u64) {
     in_words(tally, "the landings", Tally::landings);
     in_words(tally, "the tariffs", Tally::tariffs);
     in_words(tally, "the rows", Tally::rows);
+    in_words(tally, "the previews", Tally::previews);
     in_words(tally, DIFFERENCES, |tally| tally.differences_file(DIFFERENCES));
     tally.sample();
     told(tally, "the sample");
@@ -338,6 +372,7 @@ fn one_case(tally: &mut Tally, name: &str) {
         Some(("landing", _)) => tally.landings(),
         Some(("tariff", _)) => tally.tariffs(),
         Some(("row", _)) => tally.rows(),
+        Some(("preview", _)) => tally.previews(),
         _ => tally.differences_file(DIFFERENCES),
     }
 }
@@ -345,17 +380,18 @@ fn one_case(tally: &mut Tally, name: &str) {
 /// Writes the sample with the Rust's answers; the library is held against them as well.
 fn record(tally: &mut Tally, file: &str) {
     tally.sample();
-    let plans = sample::plans();
-    let mut out = (plans.len() as u32).to_le_bytes().to_vec();
-    for i in 0..plans.len() {
-        let case = sample::case_at(&plans, i);
+    let entries = sample::entries();
+    let mut out = (entries.len() as u32).to_le_bytes().to_vec();
+    for (i, entry) in entries.iter().enumerate() {
+        let case = entry.case(i);
         let plain = machine::run(&case);
-        let given = match &case.tariff {
-            Some(tariff) => tariff::under(&case, tariff, &plain),
-            None => plain,
+        let given = match entry.call(&case) {
+            Call::Run => plain,
+            Call::RunTariff(tariff) => tariff::under(&case, tariff, &plain),
+            Call::Preview => preview::of(&case, &plain),
         };
-        out.extend(sample::encode(&case, i as u32, &given));
+        out.extend(sample::encode(&case, entry.call(&case), i as u32, &given));
     }
     std::fs::write(file, &out).unwrap_or_else(|e| panic!("{file}: {e}"));
-    println!("{file}: {} cases, {} bytes; at most {:?} lent", plans.len(), out.len(), sample::MOST);
+    println!("{file}: {} cases, {} bytes; at most {:?} lent", entries.len(), out.len(), sample::MOST);
 }

@@ -14,7 +14,7 @@ pub fn case_of(text: &str) -> Result<Case, String> {
         let words: Vec<&str> = item.split_whitespace().collect();
         setting.item(&words).ok_or(format!("can't read the item \"{item}\""))?;
     }
-    Ok(setting.case())
+    setting.case().ok_or("a byte past the end of its buffer".to_string())
 }
 
 struct Setting {
@@ -24,6 +24,19 @@ struct Setting {
     board: Board,
     records: Vec<Record>,
     rate: Option<u32>,
+    /// What is changed at the end in the bytes that are lent.
+    changes: Vec<Change>,
+}
+
+/// A byte of a buffer set to a value, or a buffer cut off or lengthened by zeros.
+struct Change {
+    buffer: fn(&mut Case) -> &mut Vec<u8>,
+    what: What,
+}
+
+enum What {
+    Byte(usize, u8),
+    Length(usize),
 }
 
 impl Setting {
@@ -36,12 +49,13 @@ impl Setting {
             board: Board::default(),
             records: Vec::new(),
             rate: None,
+            changes: Vec::new(),
         }
     }
 
-    fn case(self) -> Case {
+    fn case(self) -> Option<Case> {
         let shares = vec![0x3C; SHARE * self.records.len()];
-        Case {
+        let mut case = Case {
             sheet: sheet_of(&self.records),
             board: self.board.bytes(),
             lengths: std::array::from_fn(|i| self.memories[i].len()),
@@ -50,7 +64,15 @@ impl Setting {
             rom: self.rom,
             answers: vec![0x3C; ANSWER * self.records.len()],
             tariff: self.rate.map(|rate| Tariff { shares, rate }),
+        };
+        for Change { buffer, what } in self.changes {
+            let bytes = buffer(&mut case);
+            match what {
+                What::Byte(at, byte) => *bytes.get_mut(at)? = byte,
+                What::Length(length) => bytes.resize(length, 0),
+            }
         }
+        Some(case)
     }
 
     /// A memory by its name, and its size.
@@ -73,6 +95,12 @@ impl Setting {
                 }
             }
             ["no", name] => self.memory(name)?.0.clear(),
+            [name @ ("sheet" | "board" | "store" | "answers"), "of", length, "byte" | "bytes"] => {
+                self.change(name, What::Length(number(length)? as usize))?;
+            }
+            [name @ ("sheet" | "board"), "byte", at, byte] => {
+                self.change(name, What::Byte(number(at)? as usize, number(byte)?.try_into().ok()?))?;
+            }
             [name, "of", "bytes", bytes @ ..] => {
                 let bytes: Option<Vec<u8>> = bytes.iter().map(|b| u8::from_str_radix(b, 16).ok()).collect();
                 self.lend(name, bytes?)?;
@@ -84,9 +112,33 @@ impl Setting {
                 self.board.prev_size = word(size)?.try_into().ok()?;
                 self.board.prev_addr = word(address)?;
             }
+            ["board", "buffer", "at", address, halfwords @ ..] => self.buffer(word(address)?, halfwords)?,
             ["rate", rate] => self.rate = Some(word(rate)?),
             _ => self.records.push(step(words)?),
         }
+        Some(())
+    }
+
+    fn change(&mut self, name: &str, what: What) -> Option<()> {
+        let buffer: fn(&mut Case) -> &mut Vec<u8> = match name {
+            "sheet" => |case| &mut case.sheet,
+            "board" => |case| &mut case.board,
+            "store" => |case| &mut case.store,
+            "answers" => |case| &mut case.answers,
+            _ => return None,
+        };
+        self.changes.push(Change { buffer, what });
+        Some(())
+    }
+
+    /// Halfwords that stand in the board's prefetch, from an address on; nothing is filling.
+    fn buffer(&mut self, address: u32, halfwords: &[&str]) -> Option<()> {
+        for (i, halfword) in halfwords.iter().enumerate() {
+            *self.board.halfwords.get_mut(i)? = number(halfword)?.try_into().ok()?;
+        }
+        self.board.count = halfwords.len() as u8;
+        self.board.head_addr = address;
+        self.board.next = address + 2 * halfwords.len() as u32;
         Some(())
     }
 
@@ -139,9 +191,10 @@ fn word(text: &str) -> Option<u32> {
 
 // ---- claims ----
 
-/// Holds each claim against what a run gave; the number of claims. What stands in brackets is no claim.
+/// Holds each claim against what a run gave; the number of claims. What stands in brackets is no claim. Where a refusal is
+/// claimed, nothing else is.
 pub fn check(claims: &str, case: &Case, outcome: &Outcome) -> Result<usize, String> {
-    if outcome.report.number != 0 {
+    if outcome.report.number != 0 && !claims.starts_with("refused ") {
         return Err(format!("refused: {:?}", outcome.report));
     }
     let plain = without_brackets(claims);
@@ -175,12 +228,16 @@ fn without_brackets(text: &str) -> String {
 }
 
 enum Claim {
+    /// A refusal's number and index.
+    Refused(u64, u64),
     Waitcnt(u64),
     VramCounter(u64),
     OamCounter(u64),
     PaletteCounter(u64),
     /// The previous data access that the run leaves, as size and address; (0, 0) for none.
     Previous(u64, u64),
+    /// The whole answer of the last step.
+    Bytes([u8; ANSWER]),
     Value(u64),
     /// Those of the last steps.
     Hits(Vec<u64>),
@@ -202,12 +259,15 @@ impl Claim {
     /// The claim that the words begin with, and how many words it takes.
     fn first(words: &[&str]) -> Option<(Claim, usize)> {
         Some(match words {
+            ["refused", v, "at", index, ..] => (Claim::Refused(number(v)?, number(index)?), 4),
+            ["refused", v, ..] => (Claim::Refused(number(v)?, 0), 2),
             ["board", "WAITCNT", v, ..] => (Claim::Waitcnt(number(v)?), 3),
             ["VRAM", "counter", v, ..] => (Claim::VramCounter(number(v)?), 3),
             ["OAM", "counter", v, ..] => (Claim::OamCounter(number(v)?), 3),
             ["palette", "counter", v, ..] => (Claim::PaletteCounter(number(v)?), 3),
             ["previous", "none", ..] => (Claim::Previous(0, 0), 2),
             ["previous", size, "at", address, ..] => (Claim::Previous(number(size)?, number(address)?), 4),
+            ["bytes", rest @ ..] => (Claim::Bytes(answer(rest)?), 1 + ANSWER),
             ["value", v, ..] => (Claim::Value(number(v)?), 2),
             ["count", v, ..] => (Claim::Count(number(v)?), 2),
             ["flag", v, ..] => (Claim::Flag(number(v)?), 2),
@@ -234,17 +294,21 @@ impl Claim {
     }
 
     fn hold(&self, case: &Case, outcome: &Outcome) -> Result<(), String> {
-        let answers: Vec<Answer> = outcome.answers.chunks_exact(ANSWER).map(Answer::of).collect();
+        let steps = || outcome.answers.chunks_exact(ANSWER).take(outcome.report.index as usize);
+        let answers: Vec<Answer> = steps().map(Answer::of).collect();
         let last = || answers.last().ok_or("no step");
         let column = |of: fn(&Answer) -> u64| -> Vec<u64> { answers.iter().map(of).collect() };
-        let board = Board::of(&outcome.board);
+        let board = || Board::of(&outcome.board);
         match self {
-            Claim::Waitcnt(v) => same("board WAITCNT", *v, board.waitcnt.into()),
-            Claim::VramCounter(v) => same("VRAM counter", *v, board.vram),
-            Claim::OamCounter(v) => same("OAM counter", *v, board.oam),
-            Claim::PaletteCounter(v) => same("palette counter", *v, board.palette),
-            Claim::Previous(size, address) => same("previous size", *size, board.prev_size.into())
-                .and(same("previous address", *address, board.prev_addr.into())),
+            Claim::Refused(number, index) => same("refusal", *number, outcome.report.number.into())
+                .and(same("index", *index, outcome.report.index.into())),
+            Claim::Waitcnt(v) => same("board WAITCNT", *v, board().waitcnt.into()),
+            Claim::VramCounter(v) => same("VRAM counter", *v, board().vram),
+            Claim::OamCounter(v) => same("OAM counter", *v, board().oam),
+            Claim::PaletteCounter(v) => same("palette counter", *v, board().palette),
+            Claim::Previous(size, address) => same("previous size", *size, board().prev_size.into())
+                .and(same("previous address", *address, board().prev_addr.into())),
+            Claim::Bytes(bytes) => same_bytes(bytes, steps().last()),
             Claim::Value(v) => same("value", *v, last()?.value.into()),
             Claim::Hits(list) => same_list("hits", list, &column(|a| a.hits.into())),
             Claim::Count(v) => same("count", *v, last()?.count.into()),
@@ -263,6 +327,19 @@ impl Claim {
                 same("changed bytes", *v, changed as u64)
             }
         }
+    }
+}
+
+/// An answer's bytes, in hexadecimal.
+fn answer(words: &[&str]) -> Option<[u8; ANSWER]> {
+    let bytes: Vec<u8> = words.iter().take(ANSWER).map_while(|w| u8::from_str_radix(w, 16).ok()).collect();
+    bytes.try_into().ok()
+}
+
+fn same_bytes(claimed: &[u8; ANSWER], given: Option<&[u8]>) -> Result<(), String> {
+    match given {
+        Some(given) if given == claimed => Ok(()),
+        _ => Err(format!("answer: {claimed:02X?} is claimed, {given:02X?} was given")),
     }
 }
 

@@ -78,6 +78,7 @@ fn make_true(rng: &mut Rng, plan: &mut Plan, numbers: &[u32]) {
         }
     }
     plan.meant = Some(numbers.first().copied().unwrap_or(0));
+    plan.behind_4 = numbers.iter().copied().find(|&number| number != 4).unwrap_or(0);
 }
 
 fn no_sheet(rng: &mut Rng, plan: &mut Plan) {

@@ -3,6 +3,7 @@
 
 use crate::boards::{self, CODE_EDGES, ROW_EDGES};
 use crate::bytes::*;
+use crate::compare::Call;
 use crate::figures::FIGURES;
 use crate::gen::{Memories, Plan, Rng};
 use crate::machine::{BIOS_SIZE, SIZES};
@@ -10,6 +11,7 @@ use crate::notation;
 use crate::refusals;
 use crate::rows::ROWS;
 use crate::sample_bills;
+use crate::sample_previews;
 use crate::steps::Steps;
 use crate::sweeps::{edge_plan, end_plan, faulty_plan, fill, one_of_each, row_plan, ENDS};
 
@@ -25,8 +27,37 @@ pub const MOST: [usize; 7] = [
     SHARE * (MOST_RECORDS + 1),
 ];
 
-/// The cases of the sample in order; a case's place is its fill seed.
-pub fn plans() -> Vec<Plan> {
+/// A case of the sample: its plan, and whether it is recorded as a preview; else it is a run, under its tariff if it has one.
+pub struct Entry {
+    pub plan: Plan,
+    preview: bool,
+}
+
+impl Entry {
+    /// The case; its place in the sample is its fill seed.
+    pub fn case(&self, place: usize) -> Case {
+        self.plan.rule_case(place as u32)
+    }
+
+    /// The function that the case is recorded of.
+    pub fn call<'a>(&self, case: &'a Case) -> Call<'a> {
+        match &case.tariff {
+            Some(tariff) => Call::RunTariff(tariff),
+            None if self.preview => Call::Preview,
+            None => Call::Run,
+        }
+    }
+}
+
+/// The cases of the sample in order.
+pub fn entries() -> Vec<Entry> {
+    let runs = runs().into_iter().map(|plan| Entry { plan, preview: false });
+    let previews = sample_previews::plans().into_iter().map(|plan| Entry { plan, preview: true });
+    runs.chain(previews).collect()
+}
+
+/// Those of runs, at last the ones under a tariff.
+fn runs() -> Vec<Plan> {
     let mut plans = Vec::new();
     figures(&mut plans);
     lists(&mut plans);
@@ -44,11 +75,6 @@ pub fn plans() -> Vec<Plan> {
     memory_ends(&mut plans);
     sample_bills::add(&mut plans);
     plans
-}
-
-/// The case at a place of the sample.
-pub fn case_at(plans: &[Plan], place: usize) -> Case {
-    plans[place].rule_case(place as u32)
 }
 
 pub fn few() -> Memories {
@@ -287,9 +313,10 @@ fn memory_ends(plans: &mut Vec<Plan>) {
 
 // ---- the file ----
 
-/// One case: its head, sheet, board, and what the Rust gives; under a tariff, what tariff.rs makes of that.
-pub fn encode(case: &Case, fill_seed: u32, rust: &Outcome) -> Vec<u8> {
-    let mut out = head(case, fill_seed);
+/// One case: its head, sheet, board, and what the Rust gives; under a tariff, what tariff.rs makes of that, and of a preview,
+/// what preview.rs does.
+pub fn encode(case: &Case, call: Call, fill_seed: u32, rust: &Outcome) -> Vec<u8> {
+    let mut out = head(case, call, fill_seed);
     out.extend(&case.sheet);
     out.extend(&case.board);
     out.extend(rust.report.number.to_le_bytes());
@@ -311,12 +338,14 @@ pub fn encode(case: &Case, fill_seed: u32, rust: &Outcome) -> Vec<u8> {
 /// The functions of the library, as the head numbers them.
 const RUN: usize = 0;
 const RUN_TARIFF: usize = 1;
+const PREVIEW: usize = 2;
 
 /// The 17 numbers before the bytes of a case: what is lent is told by its length.
-fn head(case: &Case, fill_seed: u32) -> Vec<u8> {
-    let (shares, function, rate) = match &case.tariff {
-        None => (0, RUN, 0),
-        Some(tariff) => (tariff.shares.len(), RUN_TARIFF, tariff.rate),
+fn head(case: &Case, call: Call, fill_seed: u32) -> Vec<u8> {
+    let (shares, function, rate) = match call {
+        Call::Run => (0, RUN, 0),
+        Call::RunTariff(tariff) => (tariff.shares.len(), RUN_TARIFF, tariff.rate),
+        Call::Preview => (0, PREVIEW, 0),
     };
     let lent = [&case.sheet, &case.board, &case.store, &case.bios, &case.rom, &case.answers].map(Vec::len);
     assert!(lent.into_iter().chain([shares]).zip(MOST).all(|(length, most)| length <= most));

@@ -69,7 +69,7 @@ pub fn one_of_each() -> Vec<Record> {
 }
 
 /// Every set of the eight refusals under a tariff, 6 by either buffer and by both, eight times. Without the tariff they are the
-/// sets of the seven, and some are accepted.
+/// sets of the seven, and for the preview those of the six without 4; some are accepted.
 fn refusal_sets(visit: &mut dyn FnMut(Plan)) {
     for set in 1..256 {
         let numbers = refusals::set_of_eight(set);

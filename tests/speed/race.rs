@@ -43,7 +43,7 @@ impl Race {
         let one = self.run(lent, number, early)?;
         let other = self.run(lent, number, 1 - early)?;
         let (a, b) = if early == 0 { (one, other) } else { (other, one) };
-        self.compare(number, &a, &b)
+        self.compare(number, a, b)
     }
 
     fn run(&mut self, lent: &mut Lent, number: usize, side: usize) -> Result<Given, String> {
@@ -53,16 +53,18 @@ impl Race {
         Ok(given)
     }
 
-    /// Whether both sides did the same work.
-    fn compare(&self, number: usize, a: &Given, b: &Given) -> Result<(), String> {
+    /// Whether both sides did the same work: the first gave what it must where the second gave `b`, and their stores are equal if
+    /// both have one.
+    fn compare(&self, number: usize, a: Given, b: Given) -> Result<(), String> {
         let [first, second] = self.between.names;
-        let what = if a.report != b.report || a.report.number != 0 {
-            format!("reports: {first} {:?}, {second} {:?}", a.report, b.report)
-        } else if a.answers != b.answers {
+        let must = (self.between.first_gives)(&self.sheets[number].bytes, b);
+        let what = if a.report != must.report || a.report.number != 0 {
+            format!("reports: {first} {:?}, by {second} {:?}", a.report, must.report)
+        } else if a.answers != must.answers {
             "answers".to_string()
-        } else if a.board != b.board {
+        } else if a.board != must.board {
             "boards".to_string()
-        } else if self.sides[0].parts() != self.sides[1].parts() {
+        } else if self.sides[0].parts().zip(self.sides[1].parts()).is_some_and(|(a, b)| a != b) {
             "stores".to_string()
         } else {
             return Ok(());

@@ -1,5 +1,5 @@
 //! The sides whose times are compared, two at a time: the library and the Rust; a run of the library under a tariff and one
-//! without.
+//! without; the library's preview and its run.
 
 use crate::bytes::*;
 use crate::memories::Memories;
@@ -11,13 +11,19 @@ use crate::timing::timed;
 /// much, from the places of their code and data alone.
 const SAME: f64 = 1.05;
 
-/// The most that a run under a tariff may cost of one without; and on IDLE 1, whose steps are the cheapest, while a share costs the
-/// same for every step.
+/// The most that a run under a tariff may cost of one without; and on IDLE 1, whose steps are the cheapest, while a share costs
+/// the same for every step.
 const TARIFF_MOST: f64 = 1.15;
 const TARIFF_MOST_IDLE: f64 = 1.25;
 
+/// The most that a preview may cost of a run.
+const PREVIEW_MOST: f64 = 1.15;
+
 /// Cents per million cycles.
 const RATE: u32 = 307;
+
+/// The board that each run starts from.
+const FRESH: [u8; BOARD] = [0; BOARD];
 
 /// Fills answers and shares before a run, so that none is left there from the run before: an answer's last byte is 0, and so is a
 /// share's.
@@ -55,7 +61,7 @@ impl Lent {
     /// A side's run of a sheet from a fresh board: its time in ns a record, and what it gave. Only the run itself is timed.
     pub fn time(&mut self, sheet: &[u8], side: &mut dyn Side) -> Result<(f64, Given), String> {
         self.sheet.copy_from_slice(sheet);
-        self.board.fill(0);
+        self.board.copy_from_slice(&FRESH);
         self.answers.fill(NO_ANSWER);
         self.shares.fill(NO_ANSWER);
         let (ns, report) = timed(|| side.run(self));
@@ -67,12 +73,12 @@ impl Lent {
 
 // ---- the sides ----
 
-/// Has memories of its own, which go on from run to run.
+/// Has memories of its own, which go on from run to run, or none at all.
 pub trait Side {
     fn run(&mut self, lent: &mut Lent) -> Report;
 
-    /// The seven memories of the store, in its order.
-    fn parts(&self) -> [&[u8]; 7];
+    /// The seven memories of the store, in its order, where it has memories.
+    fn parts(&self) -> Option<[&[u8]; 7]>;
 
     /// Whether the last run left what only this side leaves as it should.
     fn check(&self, _lent: &Lent) -> Result<(), String> {
@@ -85,8 +91,8 @@ impl Side for Memories {
         Memories::run(self, &lent.sheet, &mut lent.board, &mut lent.answers)
     }
 
-    fn parts(&self) -> [&[u8]; 7] {
-        Memories::parts(self)
+    fn parts(&self) -> Option<[&[u8]; 7]> {
+        Some(Memories::parts(self))
     }
 }
 
@@ -95,8 +101,8 @@ impl Side for Machine {
         Machine::run(self, &lent.sheet, &mut lent.board, &mut lent.answers)
     }
 
-    fn parts(&self) -> [&[u8]; 7] {
-        Machine::parts(self)
+    fn parts(&self) -> Option<[&[u8]; 7]> {
+        Some(Machine::parts(self))
     }
 }
 
@@ -113,8 +119,8 @@ impl Side for Billed {
         Report { number: self.bill.number, index: self.bill.index, total: self.bill.total }
     }
 
-    fn parts(&self) -> [&[u8]; 7] {
-        self.memories.parts()
+    fn parts(&self) -> Option<[&[u8]; 7]> {
+        Some(self.memories.parts())
     }
 
     /// The charge pays for the total and not a whole cent more, and the shares add up to it.
@@ -129,6 +135,48 @@ impl Side for Billed {
     }
 }
 
+/// The library's preview, which is lent no memories.
+struct Preview;
+
+impl Side for Preview {
+    #[inline(never)]
+    fn run(&mut self, lent: &mut Lent) -> Report {
+        let Lent { sheet, board, answers, .. } = lent;
+        // each pointer is to so many bytes of a buffer of its own, which nothing else uses meanwhile
+        unsafe {
+            bts_preview(sheet.as_ptr(), sheet.len(), board.as_ptr(), board.len(), answers.as_mut_ptr(), answers.len())
+        }
+    }
+
+    fn parts(&self) -> Option<[&[u8]; 7]> {
+        None
+    }
+}
+
+/// What a preview gives where a run of the same sheet gave this (document 02, W-205): the answers but for what it doesn't tell,
+/// and the board as lent. A table and no jump on each record's kind: what is done between two runs must not make the processor
+/// forget their branches.
+fn previewed(sheet: &[u8], run: Given) -> Given {
+    let Given { report, mut answers, .. } = run;
+    let told: [[u8; ANSWER]; 1 + LATCH as usize] = std::array::from_fn(|kind| told(kind as u8));
+    let kinds = sheet[HEADER..].chunks_exact(RECORD).map(|record| usize::from(record[0]));
+    for (kind, answer) in kinds.zip(answers.chunks_exact_mut(ANSWER)) {
+        answer.iter_mut().zip(told[kind]).for_each(|(byte, told)| *byte &= told);
+    }
+    Given { report, board: FRESH.to_vec(), answers }
+}
+
+/// The bits of an answer that a preview tells: the value of READ and FETCH is 0, and so are the hits of WRITE.
+fn told(kind: u8) -> [u8; ANSWER] {
+    let mut bits = [0xFF; ANSWER];
+    match kind {
+        READ | FETCH => bits[..4].fill(0),
+        WRITE => bits[8] = 0,
+        _ => {}
+    }
+    bits
+}
+
 // ---- two sides ----
 
 /// Two sides of which the first may cost only so much of the second.
@@ -138,8 +186,10 @@ pub struct Match {
     pub other: &'static str,
     /// The greatest ratio of best times on a sort of sheets.
     pub most: fn(&Sort) -> f64,
+    /// What the first must give where the second gave this on a sheet.
+    pub first_gives: fn(&[u8], Given) -> Given,
     pub shares_len: usize,
-    /// Each with a copy of the memories.
+    /// Each with a copy of the memories, if it has any.
     pub sides: fn(&Memories) -> [Box<dyn Side>; 2],
 }
 
@@ -147,6 +197,7 @@ pub static LIBRARY_AND_RUST: Match = Match {
     names: ["library", "Rust"],
     other: "the Rust",
     most: |_| SAME,
+    first_gives: |_, given| given,
     shares_len: 0,
     sides: |memories| [Box::new(memories.clone()), Box::new(Machine::new(memories))],
 };
@@ -155,9 +206,19 @@ pub static TARIFF_AND_RUN: Match = Match {
     names: ["tariff", "run"],
     other: "bts_run",
     most: |sort| if sort.word == "idle" { TARIFF_MOST_IDLE } else { TARIFF_MOST },
+    first_gives: |_, given| given,
     shares_len: SHARE * sheets::RECORDS,
     sides: |memories| {
         let bill = Bill { number: 0, index: 0, total: 0, charge: 0 };
         [Box::new(Billed { memories: memories.clone(), bill }), Box::new(memories.clone())]
     },
+};
+
+pub static PREVIEW_AND_RUN: Match = Match {
+    names: ["preview", "run"],
+    other: "bts_run",
+    most: |_| PREVIEW_MOST,
+    first_gives: previewed,
+    shares_len: 0,
+    sides: |memories| [Box::new(Preview), Box::new(memories.clone())],
 };

@@ -1,15 +1,17 @@
 -- What a reader gets who trusts only the exported functions. The contract of `bts_run` says of a call that was lent `i` and left
--- `o` that `o ≡ outcome i`; that of `bts_run_tariff` says of one that was lent `t` and left `b` that `b ≡ bill t`. All that is
--- here follows from these equations: demands 1 and 3, what a WRITE tells, and what is charged.
+-- `o` that `o ≡ outcome i`; that of `bts_run_tariff` says of one that was lent `t` and left `b` that `b ≡ bill t`; that of
+-- `bts_preview` says of one that was lent `q` and left `p` that `p ≡ preview q`. All that is here follows from these equations:
+-- demands 1 and 3, what a WRITE tells, what is charged, and that a preview is the run.
 use mathlib.Core.Path.{_≡_, refl}
 use mathlib.Core.Logic.{_≢_}
 use mathlib.Core.Bool.{true}
 use Prim.Native.Nat.{ℕ, _*_, _≤_, _<_}
-use Rattle.model.specs.Sheet.{maxRecords, recordAt, recordCount, stepOf}
+use Rattle.model.specs.Sheet.{maxRecords, recordAt, recordCount, recordsOf, stepOf}
 use Rattle.model.specs.BoardBytes.{sound}
 use Rattle.model.specs.Outcome.{Lent, LentBytes, Outcome, verdict, outcomeBy, outcome}
-use Rattle.model.specs.Alike.{AlikeSheets, AlikeBoards, Accounts, Demand3}
+use Rattle.model.specs.Alike.{AlikeSheets, AlikeBoards, Limits, Accounts, Demand3}
 use Rattle.model.specs.Tariff.{Tariffed, Billed, tariffVerdict, billBy, bill, Bills, SameBill}
+use Rattle.model.specs.Preview.{Asked, Previewed, previewVerdict, previewAnswers, previewBy, preview, AsRun}
 use Rattle.model.specs.Laws.Rows.{Exactly}
 use Rattle.model.specs.Laws.Refusal as refusal
 use Rattle.model.specs.Laws.Refusal.{Table, Index, Acceptable, Untouched}
@@ -18,8 +20,10 @@ use Rattle.model.specs.Laws.Demand3 as demand
 use Rattle.model.specs.Laws.Told.{Told, told}
 use Rattle.model.specs.Laws.Billed as billed
 use Rattle.model.specs.Laws.Billed.{TariffTable, TariffAcceptable, RateAlone, Room, Fair, Unbilled}
-use Rattle.examine.specs.Verdicts.{ready, index-small, tariff-index-small}
-use Rattle.bts.specs.Reported.{run-accepts}
+use Rattle.model.specs.Laws.Previewed as previewed
+use Rattle.model.specs.Laws.Previewed.{PreviewTable, Unwritten}
+use Rattle.examine.specs.Verdicts.{ready, index-small, tariff-index-small, preview-index-small}
+use Rattle.bts.specs.Reported.{run-accepts, bare-ready}
 use Rattle.model.specs.declared.AccessSize.{AccessSize}
 use Rattle.model.specs.declared.Step.the-variants.{Write}
 use Rattle.model.specs.declared.Verdict.{Verdict}
@@ -41,7 +45,7 @@ module _ (i : Lent) (o : Outcome) (call : o ≡ outcome i) where
   accepts = rw call (refusal.zero-exactly i)
 
   -- 0 for 1 to 6, the first faulty record for 7, the number of records for 0
-  pub index : Index i o
+  pub index : Index (i .sheet) (o .number) (o .index)
   index = rw call (refusal.index i)
 
   -- it fits its 32 bits
@@ -100,7 +104,7 @@ module _ (t : Tariffed) (b : Billed) (call : b ≡ bill t) where
   refuses-rate = rw call (billed.bad-rate t)
 
   -- the index: 0 for 8 too
-  pub tariff-index : Index (t .run) (b .run)
+  pub tariff-index : Index (t .run .sheet) (b .run .number) (b .run .index)
   tariff-index = rw call (billed.tariff-index t)
 
   pub tariff-few-records : b .run .index ≤ maxRecords
@@ -129,3 +133,44 @@ pub same-bills : (t u : Tariffed) (a b : Billed) → a ≡ bill t → b ≡ bill
     → t .rate ≡ u .rate → AlikeSheets (t .run .sheet) (u .run .sheet) → AlikeBoards (t .run .board) (u .run .board)
     → SameBill t u a b
 same-bills = billed.same-bill
+
+-- ---- W-205: the price before running
+
+module _ (q : Asked) (p : Previewed) (call : p ≡ preview q) where
+  -- the customer's sentence: for all memories that the run accepts it is the run on a copy of the board, but for the named zeros,
+  -- and it is accepted exactly when the run with some memories is
+  pub as-run : AsRun q p
+  as-run = rw call (previewed.as-run q)
+
+  -- demand 1: each number exactly when its row of the preview's table holds and no earlier one does
+  pub preview-table : PreviewTable q p
+  preview-table = rw call (previewed.preview-table q)
+
+  -- the run's refusals, without 4
+  pub preview-refusals : (p .number ≤ 7) × (p .number ≢ 4)
+  preview-refusals = rw call (previewed.six-refusals q)
+
+  pub preview-index : Index (q .sheet) (p .number) (p .index)
+  preview-index = rw call (previewed.preview-index q)
+
+  pub preview-few-records : p .index ≤ maxRecords
+  unfolding preview
+  preview-few-records = rw call (by-verdict (previewVerdict q) refl)
+    where
+      by-verdict : (v : Verdict) → previewVerdict q ≡ v → (previewBy q v) .index ≤ maxRecords
+      by-verdict Accepted a = (bare-ready q a) .shaped .few
+      by-verdict (Refused r) a = preview-index-small q r a
+
+  -- sheet and board are as lent, and a refusal gives total 0 and changes no byte of the answers
+  pub preview-leaves : Unwritten q p
+  preview-leaves = rw call (previewed.unwritten q)
+
+  -- demand 3's limits
+  pub preview-limits : p .number ≡ 0 → Limits (recordsOf (q .sheet)) (p .total)
+  preview-limits = rw call (previewed.total-limits q)
+
+-- demand 3's sentence for previews: any two accepted ones with alike sheets and boards have the same answers and total
+pub same-previews : (q r : Asked) → (preview q) .number ≡ 0 → (preview r) .number ≡ 0
+    → AlikeSheets (q .sheet) (r .sheet) → AlikeBoards (q .board) (r .board)
+    → (previewAnswers q ≡ previewAnswers r) × ((preview q) .total ≡ (preview r) .total)
+same-previews = previewed.same-previews

@@ -1,24 +1,28 @@
 -- What the exported runs give back, as the definitions have it; and what an accepted run's parts make of it.
 use mathlib.Core.Path.{_≡_, refl, sym, ap, ap₂, _∙_}
-use mathlib.Core.List.{List}
+use mathlib.Core.List.{List, _++_, append-nil}
 use Prim.Native.Nat.{ℕ, _*_, _≤_}
 use native.Mathlib.Omega.{arith}
-use lib.ListN.{length, drop, length-append}
+use lib.ListN.{length, take, drop, replicate, length-append}
+use lib.Seq.{take-all}
 use Rattle.model.specs.Base.{sum}
 use Rattle.model.specs.Step.{State, cyclesOf}
-use Rattle.model.specs.Sheet.{recordCount}
-use Rattle.model.specs.BoardBytes.{answerLength, clockOf, halvesFrom, contentsOf, boardBytes, answersBytes}
+use Rattle.model.specs.Sheet.{recordCount, recordsFrom}
+use Rattle.model.specs.BoardBytes.{boardLength, answerLength, clockOf, halvesFrom, contentsOf, boardBytes, answersBytes}
 use Rattle.model.specs.Outcome.{Lent, LentBytes, Outcome, mediaOf, firstState, ran, verdict, refusalNumber, refusalIndex}
 use Rattle.model.specs.Outcome.{outcomeBy, outcome}
 use Rattle.model.specs.Alike.{cyclesFrom}
 use Rattle.model.specs.Tariff.{charge, sharesIn, Tariffed, Billed, tariffVerdict, billBy, bill}
+use Rattle.model.specs.Preview.{Asked, Previewed, previewVerdict, previewBy, preview, noMemories, lentWith, eachAnswer}
 use Rattle.model.specs.Laws.Refusal.{number-zero, zero-exactly}
 use Rattle.model.specs.Laws.Fits.{answers-count, total-fits}
 use Rattle.model.specs.Laws.Demand3.{cycles-there}
 use Rattle.model.specs.Laws.Billed.{TariffAcceptable, tariff-accepted}
+use Rattle.model.specs.Laws.Previewed.{bare-verdict, preview-total}
 use Rattle.step.specs.Begun.{stateFrom}
-use Rattle.examine.specs.Verdicts.{ready}
+use Rattle.examine.specs.Verdicts.{Ready, ready}
 use Rattle.tariff.specs.Shares.{Payable, Billable}
+use Rattle.preview.specs.Values.{clockValued, Answered, preview-from}
 use Rattle.bts.specs.Beginning.{Beginning, Ends, answers-size}
 use Rattle.model.specs.declared.Answer.{Answer}
 use Rattle.model.specs.declared.Clock.{Clock}
@@ -63,6 +67,19 @@ module _ (i : Lent) (n : ℕ) (c : Clock) (h : List ℕ) (d : Contents) (en : n 
       ∙ accepted i (stateFrom (done .clock) halves (done .contents) store)
       (record { number = 0; index = n; total = done .total }) board answers
       (rw (e .all, en, ec, eh, ed) at (e .beginning)) eb refl en
+
+-- its answers stand
+answers-long : (i : Lent) {r : Report} {board store answers : List ℕ} → reported r board store answers ≡ outcomeBy i Accepted
+    → answerLength * recordCount (i .sheet) ≤ length answers
+answers-long i ran-is =
+    let xs : List Answer = (ran i) .answers in
+    omega (
+      arith,
+      ap (λ (o : Outcome). length (o .answers)) ran-is,
+      length-append (answersBytes xs) (drop (answerLength * recordCount (i .sheet)) (i .answers)),
+      answers-size xs,
+      answers-count i,
+    )
 
 -- a report of a refusal, with the buffers as they were lent, is the refused outcome
 refused-by : (i : Lent) (q : Refusal) (r : Report) → r .number ≡ refusalNumber q → r .index ≡ refusalIndex q → r .total ≡ 0
@@ -119,18 +136,6 @@ module _ (t : Tariffed) (yes : tariffVerdict t ≡ Accepted) where
     all-records : r .index ≡ recordCount (t .run .sheet)
     all-records = ap (λ (o : Outcome). o .index) ran-is
 
-    -- its answers stand
-    answered : answerLength * recordCount (t .run .sheet) ≤ length answers
-    answered =
-        let xs : List Answer = (ran (t .run)) .answers in
-        omega (
-          arith,
-          ap (λ (o : Outcome). length (o .answers)) ran-is,
-          length-append (answersBytes xs) (drop (answerLength * recordCount (t .run .sheet)) (t .run .answers)),
-          answers-size xs,
-          answers-count (t .run),
-        )
-
     module _ (lent : LentBytes (t .run)) where
       -- the cycles that stand in its answers are the run's
       cycles-are : cyclesFrom answers 0 (r .index) ≡ cyclesOf (ran (t .run))
@@ -149,7 +154,7 @@ module _ (t : Tariffed) (yes : tariffVerdict t ≡ Accepted) where
       billable =
           record {
             few = omega (arith, all-records, (ready (t .run) run-accepts) .shaped .few);
-            answered = omega (arith, all-records, answered);
+            answered = omega (arith, all-records, answers-long (t .run) ran-is);
             room = omega (arith, all-records, asked .all .room .shares);
             summed = ap (λ (o : Outcome). o .total) ran-is ∙ sym (ap sum cycles-are);
             payable = payable;
@@ -166,3 +171,69 @@ module _ (t : Tariffed) (yes : tariffVerdict t ≡ Accepted) where
             charge = (e ∙ ap (λ (o : Outcome). charge (t .rate) (o .total)) ran-is) x;
             shares = (w ∙ ap₂ (sharesIn (t .shares) (t .rate)) cycles-are all-records) x;
           }
+
+-- ---- a preview
+
+-- a report, with what stands in the buffers then
+abbrev pub reportedPreview : Report → List ℕ → List ℕ → List ℕ → Previewed
+reportedPreview r sheet board answers =
+    record { number = r .number; index = r .index; total = r .total; sheet = sheet; board = board; answers = answers }
+
+-- a report of a refusal, with the buffers as they were lent, is the refused preview
+pub refused-preview : (q : Asked) (r : Refusal) (t : Report) → previewVerdict q ≡ Refused r
+    → t .number ≡ refusalNumber r → t .index ≡ refusalIndex r → t .total ≡ 0
+    → reportedPreview t (q .sheet) (q .board) (q .answers) ≡ preview q
+unfolding preview
+refused-preview q r t e n k z = same ∙ sym (ap (previewBy q) e)
+  where
+    same : reportedPreview t (q .sheet) (q .board) (q .answers) ≡ previewBy q (Refused r)
+    same x =
+        record { number = n x; index = k x; total = z x; sheet = q .sheet; board = q .board; answers = q .answers }
+
+-- a board is copied over as many zeros
+pub copied : (b : List ℕ) (n : ℕ) → n ≡ length b → length b ≡ boardLength → take n b ++ drop n (replicate boardLength 0) ≡ b
+copied b n e h =
+    ap (λ (k : ℕ). take k b ++ drop k (replicate boardLength 0)) (e ∙ h)
+    ∙ append-nil (take boardLength b) ∙ take-all boardLength b (omega (arith, h))
+
+-- an accepted sheet
+module _ (q : Asked) (yes : previewVerdict q ≡ Accepted) where
+  abbrev bare : Lent
+  bare = lentWith q noMemories
+
+  -- the run over no memories accepts it too
+  pub bare-accepts : verdict bare ≡ Accepted
+  bare-accepts = bare-verdict q ∙ yes
+
+  pub bare-ready : Ready bare
+  bare-ready = ready bare bare-accepts
+
+  module _ {r : Report} {board store answers : List ℕ} (ran-is : reported r board store answers ≡ outcomeBy bare Accepted) where
+    all-answered : r .index ≡ recordCount (q .sheet)
+    all-answered = ap (λ (o : Outcome). o .index) ran-is
+
+    -- its answers stand
+    pub answers-stand : Answered (r .index) (q .sheet) answers
+    answers-stand =
+        record {
+          few = omega (arith, all-answered, bare-ready .shaped .few);
+          long = omega (arith, all-answered, bare-ready .shaped .long);
+          room = omega (arith, all-answered, answers-long bare ran-is);
+        }
+
+    -- with their values told it is the accepted preview
+    pub previewed-from : {told : List ℕ} → told ≡ eachAnswer clockValued (recordsFrom (q .sheet) 0 (r .index)) answers
+        → reportedPreview r (q .sheet) (q .board) told ≡ previewBy q Accepted
+    previewed-from w x =
+        record {
+          number = ap (λ (o : Outcome). o .number) ran-is x;
+          index = all-answered x;
+          total = (ap (λ (o : Outcome). o .total) ran-is ∙ preview-total q noMemories) x;
+          sheet = q .sheet;
+          board = q .board;
+          answers =
+              (w
+              ∙ ap₂ (λ (n : ℕ) (l : List ℕ). eachAnswer clockValued (recordsFrom (q .sheet) 0 n) l) all-answered
+              (ap (λ (o : Outcome). o .answers) ran-is)
+              ∙ preview-from q (drop (answerLength * recordCount (q .sheet)) (q .answers))) x;
+        }

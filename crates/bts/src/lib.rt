@@ -1,8 +1,9 @@
-// The run of a sheet over a lent board and lent memories, exported to C as `bts_run`, and the same under a tariff, exported as
-// `bts_run_tariff`. include/bts.h documents both for C.
+// The run of a sheet over a lent board and lent memories, exported to C as `bts_run`, the same under a tariff, exported as
+// `bts_run_tariff`, and the price of a sheet before it is run, exported as `bts_preview`. include/bts.h documents them for C.
 mod run;
 
 use examine::examine_tariff;
+use model::BOARD_LENGTH;
 use model::Lengths;
 use model::Verdict;
 use records::sheet;
@@ -10,8 +11,9 @@ ghost use mathlib.Core.Path.{_≡_};
 ghost use Rattle.model.specs.Outcome.{verdict, outcomeBy, outcome};
 ghost use Rattle.model.specs.declared.Verdict.the-variants.{Accepted};
 ghost use Rattle.model.specs.Tariff.{tariffVerdict, billBy, bill};
-ghost use Rattle.examine.specs.Lent.{lending, tariffing};
-ghost use Rattle.bts.specs.Reported.{reported, reportedBill};
+ghost use Rattle.model.specs.Preview.{previewVerdict, previewBy, preview};
+ghost use Rattle.examine.specs.Lent.{lending, tariffing, asking};
+ghost use Rattle.bts.specs.Reported.{reported, reportedBill, reportedPreview};
 
 // What a run gives back: 0, the number of records and the total; or the refusal's number and index, and 0.
 #[repr(C)]
@@ -232,4 +234,43 @@ pub extern "C" fn bts_run_tariff(
         lengths,
         rate,
     )
+}
+
+// The price of an accepted sheet: a run over no memories on a copy of the board, of whose values only those stay that the clock
+// tells. What the other columns show, the clock tells.
+fn preview_accepted(sheet: &[u8], board: &[u8], answers: &mut [u8]) -> Report
+    requires { ⌜ previewVerdict (asking (now sheet) (now board) (now answers)) ≡ Accepted ⌝ }
+    ensures { λ r. ⌜ reportedPreview r (now (sheet .exit)) (now (board .exit)) (now (answers .exit))
+        ≡ previewBy (asking (now (sheet .entry)) (now (board .entry)) (now (answers .entry))) Accepted ⌝ }
+{
+    let mut spare = [0u8; BOARD_LENGTH];
+    bytes::copy(board, &mut spare);
+    let mut store = [0u8; 0];
+    let report = run_accepted(
+        sheet,
+        &mut spare,
+        &mut store,
+        b"",
+        b"",
+        answers,
+        Lengths::none(),
+    );
+    preview::put_values(sheet, report.index as usize, answers);
+    report
+}
+
+#[no_mangle]
+pub extern "C" fn bts_preview(sheet: &[u8], board: &[u8], answers: &mut [u8]) -> Report
+    ensures { λ r. ⌜ reportedPreview r (now (sheet .exit)) (now (board .exit)) (now (answers .exit))
+        ≡ preview (asking (now (sheet .entry)) (now (board .entry)) (now (answers .entry))) ⌝ }
+{
+    let verdict = examine::examine_preview(sheet, board, answers);
+    match verdict {
+        Verdict::Accepted => preview_accepted(sheet, board, answers),
+        Verdict::Refused(refusal) => Report {
+            number: examine::refusal_number(refusal),
+            index: examine::refusal_index(refusal) as u32,
+            total: 0,
+        },
+    }
 }

@@ -17,6 +17,7 @@ use Rattle.model.specs.Outcome.{roomRows, faultIndex, recordsRows}
 use Rattle.model.specs.Outcome.{sizesFit, verdict, refusalIndex, Outcome, outcomeBy, outcome}
 use Rattle.model.specs.Laws.Places.{sizesSmall, Sized, small-sized}
 use Rattle.model.specs.Tariff.{Tariffed, Billed, sharesRows, rateRows, tariffVerdict, billBy, bill}
+use Rattle.model.specs.Preview.{Asked, noMemories, lentWith, previewVerdict}
 use Rattle.model.specs.Laws.Choice.{parts, or-true-right, or-false}
 use Rattle.model.specs.Laws.Sound.{SoundClock}
 use Rattle.model.specs.Laws.Codec.{sound-formed}
@@ -24,6 +25,7 @@ use Rattle.model.specs.Laws.Rows.{orElse, row-holds, row-passes, first-append, 
 use Rattle.model.specs.Laws.Refusal.{NoFault, FirstFault, Acceptable, accepted-acceptable, table, Index, index}
 use Rattle.model.specs.Laws.Fits.{sound-clock}
 use Rattle.model.specs.Laws.Billed.{tariff-table, tariff-index}
+use Rattle.model.specs.Laws.Previewed.{bare-verdict}
 use Rattle.model.specs.declared.Lengths.{Lengths}
 use Rattle.model.specs.declared.Refusal.{Refusal}
 use Rattle.model.specs.declared.Refusal.the-variants.{BadMark, BadVersion, BadShape, BadLengths}
@@ -50,10 +52,14 @@ stopped xs ys e r = r ∙ sym (first-append xs ys ∙ ap (λ (v : Verdict). orEl
 abbrev pub behind-sheet : Lent → List Row
 behind-sheet i = lengthsRows (i .lengths) (length (i .store)) (length (i .bios)) (length (i .rom)) ++ boardRows (i .board)
 
--- what is left of the run's table behind its first five rows, and of the tariff's
-abbrev pub fromAnswers : Lent → List Row
-fromAnswers i = answersRows (recordCount (i .sheet)) (length (i .answers)) ++ recordsRows (i .sheet)
+-- what is left of the run's table behind its first five rows, and of a preview's behind its first four
+abbrev pub restRows : List ℕ → ℕ → List Row
+restRows sheet answers = answersRows (recordCount sheet) answers ++ recordsRows sheet
 
+abbrev pub fromAnswers : Lent → List Row
+fromAnswers i = restRows (i .sheet) (length (i .answers))
+
+-- of the tariff's
 abbrev pub fromRecords : Tariffed → List Row
 fromRecords t = recordsRows (t .run .sheet) ++ rateRows (t .rate)
 
@@ -162,10 +168,10 @@ small-index (FaultyRecord k) h = h k refl
 small-index BadRate h = omega arith
 
 -- the faulty record of a sheet that has its shape
-few-faulty : (i : Lent) (o : Outcome) → Index i o → not (isShaped (i .sheet)) ≡ false → o .number ≡ 7 → o .index ≤ maxRecords
-few-faulty i o x e seven =
-    let f : FirstFault (i .sheet) (o .index) = x .faulty-record seven in
-    omega (arith, f .within, (shaped (i .sheet) (not-false (isShaped (i .sheet)) e)) .few)
+few-faulty : (s : List ℕ) (number index : ℕ) → Index s number index → not (isShaped s) ≡ false → number ≡ 7 → index ≤ maxRecords
+few-faulty s number index x e seven =
+    let f : FirstFault s index = x .faulty-record seven in
+    omega (arith, f .within, (shaped s (not-false (isShaped s) e)) .few)
 
 pub index-small : (i : Lent) (r : Refusal) → verdict i ≡ Refused r → refusalIndex r ≤ maxRecords
 unfolding outcome
@@ -174,7 +180,7 @@ index-small i r e =
     let o : outcome i ≡ outcomeBy i (Refused (FaultyRecord k)) = ap (outcomeBy i) (e ∙ ap (λ (q : Refusal). Refused q) z) in
     let seven : (outcome i) .number ≡ 7 = ap (λ (x : Outcome). x .number) o in
     rw (ap (λ (x : Outcome). x .index) o)
-    at (few-faulty i (outcome i) (index i) (((table i) .records .0 seven) .1 .1 .0) seven)
+    at (few-faulty (i .sheet) _ _ (index i) (((table i) .records .0 seven) .1 .1 .0) seven)
 
 pub tariff-index-small : (t : Tariffed) (r : Refusal) → tariffVerdict t ≡ Refused r → refusalIndex r ≤ maxRecords
 unfolding bill
@@ -183,4 +189,8 @@ tariff-index-small t r e =
     let o : bill t ≡ billBy t (Refused (FaultyRecord k)) = ap (billBy t) (e ∙ ap (λ (q : Refusal). Refused q) z) in
     let seven : (bill t) .run .number ≡ 7 = ap (λ (x : Billed). x .run .number) o in
     rw (ap (λ (x : Billed). x .run .index) o)
-    at (few-faulty (t .run) ((bill t) .run) (tariff-index t) (((tariff-table t) .row 6 (lit< tt) .0 seven) .1 .1 .0) seven)
+    at (few-faulty (t .run .sheet) _ _ (tariff-index t) (((tariff-table t) .row 6 (lit< tt) .0 seven) .1 .1 .0) seven)
+
+-- a preview's is that of a run over no memories
+pub preview-index-small : (q : Asked) (r : Refusal) → previewVerdict q ≡ Refused r → refusalIndex r ≤ maxRecords
+preview-index-small q r e = index-small (lentWith q noMemories) r (bare-verdict q ∙ e)

@@ -1,4 +1,5 @@
-// What is examined before a run: the refusals, in the order of document 01's table, and the tariff's. Nothing is written here.
+// What is examined before a run or a preview: the refusals, in the order of document 01's table, and the tariff's. Nothing is
+// written here.
 use model::ANSWER_LENGTH;
 use model::Lengths;
 use model::MAX_RATE;
@@ -13,9 +14,10 @@ ghost use Prim.Native.Nat.{_≤_};
 ghost use Rattle.model.specs.Sheet.{maxRecords};
 ghost use Rattle.model.specs.Outcome as def;
 ghost use Rattle.model.specs.Tariff as tariff;
+ghost use Rattle.model.specs.Preview as preview;
 ghost use Rattle.model.specs.Laws.Rows.{orElse};
-ghost use Rattle.examine.specs.Lent.{lending, tariffing};
-ghost use Rattle.examine.specs.Verdicts.{Shaped, RoomAsked, Examined};
+ghost use Rattle.examine.specs.Lent.{lending, tariffing, asking};
+ghost use Rattle.examine.specs.Verdicts.{Shaped, RoomAsked, Examined, restRows};
 
 // No memory is longer than its physical size, and the seven add up to the store. Each is tested before they are added, so
 // that no sum wraps.
@@ -150,6 +152,18 @@ pub fn examine_lent(
     examine_board(board)
 }
 
+// The rows with which the table of a run and of a preview ends: room for the answers, and the records of a sheet that has its shape.
+fn examine_rest(sheet: &[u8], answers: usize) -> Verdict
+    requires { ⌜ Shaped (now sheet) ⌝ }
+    ensures { λ r. ⌜ r ≡ def.firstRow (restRows (now (sheet .entry)) answers) ⌝ }
+{
+    let room = examine_answers(sheet::record_count(sheet), answers);
+    let Verdict::Accepted = room else {
+        return room;
+    };
+    examine_records(sheet)
+}
+
 // The first row of the run's table that holds.
 pub fn examine(
     sheet: &[u8],
@@ -167,11 +181,23 @@ pub fn examine(
     let Verdict::Accepted = lent else {
         return lent;
     };
-    let room = examine_answers(sheet::record_count(sheet), answers.len());
-    let Verdict::Accepted = room else {
-        return room;
+    examine_rest(sheet, answers.len())
+}
+
+// The first row of a preview's table that holds: the run's without that of the lengths.
+pub fn examine_preview(sheet: &[u8], board: &[u8], answers: &[u8]) -> Verdict
+    ensures { λ r. ⌜ r ≡ preview.previewVerdict (asking (now (sheet .entry)) (now (board .entry)) (now (answers .entry))) ⌝ }
+{
+    let shape = examine_sheet(sheet);
+    let Verdict::Accepted = shape else {
+        return shape;
     };
-    examine_records(sheet)
+    let state = examine_board(board);
+    let Verdict::Accepted = state else {
+        return state;
+    };
+    let room = answers.len();
+    examine_rest(sheet, room)
 }
 
 // One verdict, or where it accepts another.

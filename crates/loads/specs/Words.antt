@@ -1,8 +1,8 @@
--- The word that stands at a place, if all four bytes of it do.
+-- The word at a place, if all four bytes of it stand there, or in a memory of the store none.
 use mathlib.Core.List.{List}
 use Prim.Native.Nat.{ℕ, _+_}
 use lib.ListN.{length}
-use lib.Dec.{ltb}
+use lib.Dec.{ltb, leb}
 use Rattle.model.specs.Base.{if_then_else_, number}
 use Rattle.model.specs.Mirror.{romOffset}
 use Rattle.model.specs.declared.Part.{Part}
@@ -15,8 +15,9 @@ use Rattle.loads.specs.declared.Loaded.the-variants.{Word, Apart}
 unfoldable pub wordAt : List ℕ → ℕ → ℕ → ℕ → Loaded
 wordAt xs base n i = if ltb n (i + 4) then Apart else Word (number 4 xs (base + i))
 
-abbrev pub wordIn : List ℕ → Part → ℕ → Loaded
-wordIn s p i = wordAt s (p .base) (p .size) i
+-- past a memory's end all bytes are 0
+unfoldable pub wordIn : List ℕ → Part → ℕ → Loaded
+wordIn s p i = if leb (p .size) i then Word 0 else wordAt s (p .base) (p .size) i
 
 -- by the memory that an address meets
 abbrev pub wordFrom : List ℕ → List ℕ → ℕ → Target → Loaded

@@ -119,7 +119,8 @@ fn read32(
 
 // ---- an aligned load, which lies in one memory
 
-// `Option<u32>`: the word at a place, if all four bytes of it stand in the memory.
+// `Option<u32>`: the word at a place, if all four bytes of it stand in the memory, or none and it is 0. (In ROM one that lies past
+// the image is left to its bytes: to ask for that too made every opcode of a run slower.)
 pub enum Loaded {
     Word(u32),
     Apart,
@@ -130,6 +131,9 @@ fn word_in(store: &[u8], part: Part, index: usize) -> Loaded
     ensures { λ r. ⌜ r ≡ words.wordIn (now (store .entry)) part index ⌝ }
 {
     if part.size < index + 4 {
+        if part.size <= index {
+            return Loaded::Word(0);
+        }
         return Loaded::Apart;
     }
     let base = part.base;

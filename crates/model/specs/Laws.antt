@@ -30,3 +30,4 @@ pub mod Demand3
 pub mod Told
 pub mod Charge
 pub mod Billed
+pub mod Previewed

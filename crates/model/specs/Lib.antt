@@ -18,4 +18,5 @@ pub mod BoardBytes
 pub mod Outcome
 pub mod Alike
 pub mod Tariff
+pub mod Preview
 pub mod Laws

@@ -49,6 +49,10 @@ sramPart l = after (oamPart l) (l .sram)
 abbrev pub lengthsSum : Lengths → ℕ
 lengthsSum l = (sramPart l) .base + l .sram
 
+-- no memory at all
+abbrev pub noLengths : Lengths
+noLengths = record { ewram = 0; iwram = 0; io = 0; palette = 0; vram = 0; oam = 0; sram = 0 }
+
 -- a byte of a memory; 0 past its length
 unfoldable pub byteIn : List ℕ → Part → ℕ → ℕ
 byteIn s p i = if ltb i (p .size) then byteAt s (p .base + i) else 0

@@ -320,8 +320,11 @@ run m s (x ∷ xs) =
     record { answers = answer m s x ∷ r .answers; state = r .state }
 
 -- the cycles of each step, and the total, which is their sum
+abbrev pub cyclesIn : List Answer → List ℕ
+cyclesIn xs = map (λ (x : Answer). x .cycles) xs
+
 abbrev pub cyclesOf : Result → List ℕ
-cyclesOf r = map (λ (x : Answer). x .cycles) (r .answers)
+cyclesOf r = cyclesIn (r .answers)
 
 abbrev pub total : Result → ℕ
 total r = sum (cyclesOf r)

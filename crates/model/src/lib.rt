@@ -2,6 +2,7 @@
 // keeps its name; the others are made for the scope document's added parts. No code that runs a sheet is here: only the
 // functions by which a type makes its own fresh value.
 ghost use mathlib.Core.Path.{_≡_};
+ghost use Rattle.model.specs.Memory.{noLengths};
 ghost use Rattle.model.specs.Prefetch.{newBuffer};
 ghost use Rattle.model.specs.BoardBytes.{freshBoard};
 
@@ -249,6 +250,23 @@ pub struct Lengths {
     pub vram: usize,
     pub oam: usize,
     pub sram: usize,
+}
+
+impl Lengths {
+    // No memory at all.
+    pub fn none() -> Lengths
+        ensures { λ r. ⌜ r ≡ noLengths ⌝ }
+    {
+        Lengths {
+            ewram: 0,
+            iwram: 0,
+            io: 0,
+            palette: 0,
+            vram: 0,
+            oam: 0,
+            sram: 0,
+        }
+    }
 }
 
 // Where a memory starts in the lent store, and how long it is.

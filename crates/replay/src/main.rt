@@ -1,20 +1,22 @@
-// Replays recorded runs: reads a sample of cases with the Rust's answers from standard input, does each by `bts_run` or by
-// `bts_run_tariff`, tells each field that differs, as `case 17: board`, and at the end how many cases agree. A case's number is
-// its place in the sample, from 0 on: case 17 is `sample:17` of tests/against-rust.
+// Replays recorded runs: reads a sample of cases with the Rust's answers from standard input, does each by `bts_run`,
+// `bts_run_tariff` or `bts_preview`, tells each field that differs, as `case 17: board`, and at the end how many cases agree. A
+// case's number is its place in the sample, from 0 on: case 17 is `sample:17` of tests/against-rust.
 //
 // The sample, the file `stdin`, was recorded by `tests/against-rust/run --record crates/replay/stdin` from the Rust at commit
 // 46607fe0ef, built unchanged but for a way to its prefetch's private fields. tests/against-rust/README.md has the format. Its
-// 863 cases are the worked figures' lists; random lists over memories of 0, 1, odd and other lengths; sound boards that no
+// 983 cases are the worked figures' lists; random lists over memories of 0, 1, odd and other lengths; sound boards that no
 // list of steps leads to, among them counters near 2^64 - 1; fills across each window edge, and one stopped after each number
 // of cycles; each refusal alone and each two of them; each way to break a board, boards of other lengths, and random damage;
 // each kind of record with each field wrong; each two faults of records, in either order, and faults in the last of 4,096; lists
 // of 0, 1, 4,096 and 4,097 records; every edge over full memories, those where addresses wrap included; stores across each
 // memory's end, at lengths of each residue modulo 4; each memory one byte too long; rows of data accesses in each window, around
-// blocks and edges, on boards with and without a previous access, with each other kind of step between; and 103 runs under a
-// tariff, from one rounding edge to the next, with each refusal alone and each two of them.
+// blocks and edges, on boards with and without a previous access, with each other kind of step between; 103 runs under a
+// tariff, from one rounding edge to the next, with each refusal alone and each two of them; and 120 previews, of each kind of
+// step, from boards of all sorts, with each of their refusals alone and each two of them.
 mod pattern;
 
 use bts::Bill;
+use bts::Report;
 use le::word_at;
 use libc::STDIN_FILENO;
 use libc::STDOUT_FILENO;
@@ -84,8 +86,10 @@ struct Asked {
     rate: u32,
 }
 
-// The operation of a run under a tariff; any other is a run.
+// The operation of a run under a tariff, and that of a preview; any other is a run.
 const TARIFF: u32 = 1;
+
+const PREVIEW: u32 = 2;
 
 fn asked_of(head: &[u8]) -> Asked
     ensures { λ r. ⌜ r ≡ headAsked (now (head .entry)) ⌝ }
@@ -220,7 +224,19 @@ fn set_up(
     true
 }
 
-// Does what the case asks. A run without a tariff is told as a bill that charges nothing.
+// What has no tariff is told as a bill that charges nothing.
+fn uncharged(report: Report) -> Bill
+    ensures { λ r. ⌜ r ≡ record { number = report .number; index = report .index; total = report .total; charge = 0 } ⌝ }
+{
+    Bill {
+        number: report.number,
+        index: report.index,
+        total: report.total,
+        charge: 0,
+    }
+}
+
+// Does what the case asks.
 fn run(
     sheet: &[u8],
     board: &mut [u8],
@@ -251,7 +267,10 @@ fn run(
             asked.rate,
         );
     }
-    let report = bts::bts_run(
+    if asked.operation == PREVIEW {
+        return uncharged(bts::bts_preview(sheet, board, answers));
+    }
+    uncharged(bts::bts_run(
         sheet,
         board,
         store,
@@ -265,13 +284,7 @@ fn run(
         x.vram,
         x.oam,
         x.sram,
-    );
-    Bill {
-        number: report.number,
-        index: report.index,
-        total: report.total,
-        charge: 0,
-    }
+    ))
 }
 
 // Compares what a run left, in the sample's order.

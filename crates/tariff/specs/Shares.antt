@@ -5,14 +5,14 @@ use Prim.Native.Nat.{ℕ, suc, _+_, _-_, _*_, _/_, _^_, _≤_, _<_}
 use native.Mathlib.Omega.{arith}
 use native.Mathlib.Nat.{add-mul, sub-zero, sub-self}
 use lib.ListN.{length, take, drop, take-append-drop, length-append, length-drop}
-use lib.Seq.{length-take-le, take-append-le, take-take, drop-at, drop-drop}
+use lib.Seq.{length-take-le}
 use borrow.Rule.Slice.PartMut.{putMid}
 use Rattle.model.specs.Base.{bytes, number, numbersBytes}
 use Rattle.model.specs.Sheet.{maxRecords}
 use Rattle.model.specs.BoardBytes.{answerLength}
 use Rattle.model.specs.Alike.{answerStart, cyclesFrom}
 use Rattle.model.specs.Tariff.{rateCycles, maxRate, cost, charge, sharesAfter, shareLength, sharesIn, cyclesTo}
-use Rattle.model.specs.Laws.Codec.{numbers-length}
+use Rattle.model.specs.Laws.Codec.{numbers-length, put-before}
 use Rattle.model.specs.Laws.Charge.{cycles-length, cycles-further, cost-fits, charge-grows, shares-length}
 
 -- ---- what is asked
@@ -34,15 +34,6 @@ pub payable-fits : {rate cycles : ℕ} → Payable rate cycles → cost rate cyc
 payable-fits {rate} {cycles} p = cost-fits rate cycles (p .most) (omega (arith, p .few))
 
 -- ---- the loop's invariant, with its beginning, its turn and its end as laws on plain lists
-
--- parts written from the back on: the part before those that are done
-put-before : (a w : ℕ) (lent done new : List ℕ) → a + w ≤ length lent
-    → putMid a w (take (a + w) lent ++ done) new ≡ take a lent ++ (new ++ done)
-put-before a w lent done new h =
-    let size : length (take (a + w) lent) ≡ a + w = length-take-le (a + w) lent h in
-    ap₂ (λ (x y : List ℕ). x ++ (new ++ y))
-    (take-append-le a (take (a + w) lent) done (omega (arith, size)) ∙ take-take a (a + w) lent (omega arith))
-    (drop-drop w a (take (a + w) lent ++ done) ∙ drop-at (take (a + w) lent) done (a + w) size)
 
 module _ (n rate : ℕ) (answers lent : List ℕ) where
   -- the shares of m steps from step k on, and of all from there on

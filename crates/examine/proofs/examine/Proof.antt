@@ -1,12 +1,7 @@
--- `examine` meets its contract: a part that refuses decides the verdict, one that accepts leaves it to the parts behind it.
--- Assumes nothing.
-use mathlib.Core.Path.{_≡_, sym, ap, _∙_}
-use Prim.Native.Nat.{ℕ}
-use lib.ListN.{length}
-use native.Mathlib.Omega.{arith}
+-- `examine` meets its contract: a part that refuses decides the verdict, one that accepts leaves it to the rest. Assumes nothing.
+use mathlib.Core.Path.{_≡_, sym, _∙_}
 use borrow.Author.Needs.{needs}
-use Rattle.model.specs.Outcome.{Lent, firstRow, lentRows, answersRows, recordsRows, verdict}
-use Rattle.model.specs.Sheet.{recordCount}
+use Rattle.model.specs.Outcome.{Lent, firstRow, lentRows, verdict}
 use Rattle.examine.specs.Lent.{lending}
 use Rattle.examine.specs.Verdicts.{passed, stopped, behind-sheet, fromAnswers, Shaped, sheet-shaped}
 use Rattle.examine.proofs.examine.Statement.{statement}
@@ -37,46 +32,10 @@ returns c =
     let i = lent (c .before .before .before .before .before .before .before .before .before) in
     stopped (lentRows i) (fromAnswers i) (c .before .before .examine-lent .ensures) (c .enum-told2 .given .1)
 
--- ---- there is room for the answers
-
-examine-answers-requires : tie.Need-examine-answers-requires
-examine-answers-requires c κs = omega (arith, c .record-count .ensures, (shaped (c .before)) .few)
-
--- the verdict of that part, of as many records as there are
-room-is : (c : tie.After-examine-answers)
-    → c .examine-answers .result
-    ≡ firstRow (answersRows (recordCount (entry (c .before .before) .args .sheet .now))
-    (length (entry (c .before .before) .args .answers .now)))
-room-is c =
-    c .examine-answers .ensures
-    ∙ ap (λ (k : ℕ). firstRow (answersRows k (length (entry (c .before .before) .args .answers .now))))
-    (c .before .record-count .ensures)
+-- ---- the rest decides
 
 returns-2 : tie.Need-returns-2
-returns-2 c =
-    let r = c .before .before in
-    let d = r .before .before in
-    let i = lent (entry d) in
-    stopped (answersRows (recordCount (i .sheet)) (length (i .answers))) (recordsRows (i .sheet)) (room-is r)
-    (c .enum-told4 .given .1)
-    ∙ sym (past-lent d)
-
-abbrev roomy : tie.After-enum-told3 → tie.After-examine-answers
-roomy c = c .before .before
-
-examine-records-requires : tie.Need-examine-records-requires
-examine-records-requires c κs = shaped (roomy c .before .before)
-
-returns-3 : tie.Need-returns-3
-returns-3 c =
-    let r = roomy (c .before) in
-    let d = r .before .before in
-    let i = lent (entry d) in
-    c .examine-records .ensures
-    ∙ sym
-    (past-lent d
-    ∙ passed (answersRows (recordCount (i .sheet)) (length (i .answers))) (recordsRows (i .sheet)) (room-is r)
-    (c .before .enum-told3 .given .1))
+returns-2 c = c .examine-rest .ensures ∙ sym (past-lent (c .before))
 
 pub examine-spec : {M : Type 1} → statement M
 examine-spec =
@@ -86,10 +45,5 @@ examine-spec =
     (λ c. search needs)
     (λ c. search needs)
     returns
-    (λ c κs. search needs)
-    examine-answers-requires
-    (λ c. search needs)
-    (λ c. search needs)
-    returns-2
-    examine-records-requires
-    returns-3)
+    (λ c κs. shaped c)
+    returns-2)

@@ -202,7 +202,7 @@ unfolding bill
 refused-unbilled t h = unbilled-by t (tariffVerdict t) h
 
 -- the index is that of the run's table: 0 for 8 as well
-pub tariff-index : (t : Tariffed) → Index (t .run) ((bill t) .run)
+pub tariff-index : (t : Tariffed) → Index (t .run .sheet) ((bill t) .run .number) ((bill t) .run .index)
 unfolding bill tariffVerdict
 tariff-index t =
     record {

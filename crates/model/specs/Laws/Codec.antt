@@ -10,8 +10,9 @@ use native.Mathlib.Numerals.{add-one}
 use native.Mathlib.Nat.{zero-add, add-zero, suc-add, add-assoc, one-mul, mul-zero, mul-suc, mul-assoc, mul-comm, pow-suc}
 use native.Mathlib.Nat.{pow-succ', one-le-pow, div-one, div-div-eq-div-mul, mod-eq-of-lt}
 use lib.Arith.{mod-mul}
-use lib.ListN.{length, getD, take, drop, replicate, length-append}
-use lib.Seq.{getD-append-add, drop-cons, take-add, take-all, take-at, drop-at, drop-drop}
+use lib.ListN.{length, getD, take, drop, replicate, length-append, length-drop}
+use lib.Seq.{getD-append-add, drop-cons, take-add, take-all, take-at, take-take, take-append-le, drop-at, drop-drop}
+use lib.Seq.{length-take-le}
 use lib.Dec.{eqb}
 use borrow.Author.Tests.{eqb-true, leb-true}
 use borrow.Rule.Slice.PartMut.{putMid}
@@ -144,6 +145,26 @@ put-next w k done lent new e =
     ap₂ (λ (x y : List ℕ). x ++ (new ++ drop w y)) (take-at done _ (w * k) e) (drop-at done _ (w * k) e)
     ∙ sym (append-assoc done new _)
     ∙ ap (λ (l : List ℕ). (done ++ new) ++ l) (drop-drop w (w * k) lent ∙ ap (λ (j : ℕ). drop j lent) next)
+
+-- from the back on: before those that are done, the part before them comes
+pub put-before : (a w : ℕ) (lent done new : List ℕ) → a + w ≤ length lent
+    → putMid a w (take (a + w) lent ++ done) new ≡ take a lent ++ (new ++ done)
+put-before a w lent done new h =
+    let size : length (take (a + w) lent) ≡ a + w = length-take-le (a + w) lent h in
+    ap₂ (λ (x y : List ℕ). x ++ (new ++ y))
+    (take-append-le a (take (a + w) lent) done (omega (arith, size)) ∙ take-take a (a + w) lent (omega arith))
+    (drop-drop w a (take (a + w) lent ++ done) ∙ drop-at (take (a + w) lent) done (a + w) size)
+
+-- which is still as it was lent
+pub mid-before : (a w : ℕ) (lent done : List ℕ) → a + w ≤ length lent
+    → take w (drop a (take (a + w) lent ++ done)) ≡ take w (drop a lent)
+mid-before a w lent done h =
+    let size : length (take a lent) ≡ a = length-take-le a lent (omega arith) in
+    let part : length (take w (drop a lent)) ≡ w = length-take-le w (drop a lent) (omega (arith, length-drop a lent)) in
+    ap (λ (l : List ℕ). take w (drop a (l ++ done))) (take-add a w lent)
+    ∙ ap (λ (l : List ℕ). take w (drop a l)) (append-assoc (take a lent) (take w (drop a lent)) done)
+    ∙ ap (take w) (drop-at (take a lent) _ a size)
+    ∙ take-at (take w (drop a lent)) done w part
 
 -- ---- a board whose fields fit their bytes
 

@@ -12,19 +12,20 @@ use lib.ListN.{length, getD, take, drop, set, length-map, List·getD-append}
 use lib.Seq.{getD-append-add, getD-take, getD-drop, getD-set-other, drop-drop}
 use lib.Dec.{eqb}
 use borrow.Author.Tests.{eqb-true}
-use Rattle.model.specs.Base.{bit, sum, byteAt, bytes, number, field, encoded}
+use Rattle.model.specs.Base.{sum, byteAt, bytes, number}
 use Rattle.model.specs.Waitcnt.{prefetchEnable}
-use Rattle.model.specs.Step.{Media, State, Timed, timed, changed, answer, cyclesOf}
+use Rattle.model.specs.Step.{answer, cyclesIn, cyclesOf}
 use Rattle.model.specs.Sheet.{recordAt, recordsFrom, recordCount, recordsOf, isaState, stepOf, stepsOf}
 use Rattle.model.specs.BoardBytes.{answerLength, clockOf, answerBytes, answersBytes}
 use Rattle.model.specs.Outcome.{Lent, LentBytes, Outcome, mediaOf, firstState, ran, outcomeBy, outcome}
 use Rattle.model.specs.Alike.{AlikeRecords, AlikeSheets, AlikeBoards, stateAt, answerAt, answerStart}
 use Rattle.model.specs.Alike.{ReadBack, cyclesFrom, Accounts, Compared, Demand3}
 use Rattle.model.specs.Laws.Choice.{All, choose, choose₂, by-test, tests, eqb-ne}
-use Rattle.model.specs.Laws.Times.{Times, times, withLanded, SameTime, SameTimes, timings, run-times}
-use Rattle.model.specs.Laws.Times.{run-cycles, run-total, timings-alike, cyclesIn, totalOf}
+use Rattle.model.specs.Preview.{previewed}
+use Rattle.model.specs.Laws.Times.{withHits, withValue, blanked, run-blanked, each-at, run-cycles, run-total}
+use Rattle.model.specs.Laws.Times.{Shown, shown, SameTime, SameTimes, previews-alike}
 use Rattle.model.specs.Laws.Run.{run-at}
-use Rattle.model.specs.Laws.Limits.{timings-limits, records-length}
+use Rattle.model.specs.Laws.Limits.{preview-limits, records-length}
 use Rattle.model.specs.Laws.Fits.{AnswerFits, answers-fit, answers-count}
 use Rattle.model.specs.Laws.Refusal.{was-accepted, record-in}
 use Rattle.model.specs.Laws.Codec.{number-past, number-fits, flag-byte}
@@ -55,7 +56,7 @@ same-step k z f a v u p q h =
     λ e₈ c. refl
   where
     by-value : (g : ℕ → Step) {x y : ℕ} → x ≡ y → SameTime (g x) (g y)
-    by-value g e c = ap (λ (n : ℕ). timed c (g n)) e
+    by-value g e c = ap (λ (n : ℕ). shown c (g n)) e
 
 alike-step : (r s : SheetRecord) → AlikeRecords r s → SameTime (stepOf r) (stepOf s)
 alike-step r s h c =
@@ -63,9 +64,9 @@ alike-step r s h c =
     ∙ ap₂ (λ (k z : ℕ). of k z (r .flag) (r .address)) (h .kind) (h .size)
     ∙ ap₂ (λ (f a : ℕ). of (s .kind) (s .size) f a) (h .flag) (h .address)
   where
-    of : ℕ → ℕ → ℕ → ℕ → Timed
+    of : ℕ → ℕ → ℕ → ℕ → Shown
     of k z f a =
-        timed c
+        shown c
         (stepOf
         (record {
           kind = k;
@@ -166,43 +167,34 @@ module _ (b : List ℕ) (k : ℕ) (x : Answer) (e : take answerLength (drop (ans
         zero-byte = byte-there 11 (omega arith);
       }
 
--- bytes 4 to 10 of an answer are its times
-abbrev timesBytes : Times → List ℕ
-timesBytes t = encoded (field 4 (t .cycles) ∷ field 1 (t .hits) ∷ field 1 (t .count) ∷ field 1 (bit (t .force)) ∷ [])
-
-time-byte : (x : Answer) (at : ℕ) → 4 ≤ at → at ≤ 10 → byteAt (answerBytes x) at ≡ byteAt (timesBytes (times x)) (at - 4)
-time-byte x at l u =
+-- a byte that is compared is one that the clock tells: it stands in the answer and in the blanked one
+value-apart : (x : Answer) (at : ℕ) → 4 ≤ at → byteAt (answerBytes x) at ≡ byteAt (answerBytes (withValue 0 x)) at
+value-apart x at h =
     let e : at ≡ 4 + (at - 4) = omega arith in
     ap (byteAt (answerBytes x)) e
-    ∙ getD-append-add (bytes 4 (x .value)) (timesBytes (times x) ++ (0 ∷ [])) (at - 4) 0
-    ∙ List·getD-append (timesBytes (times x)) (0 ∷ []) 0 (at - 4) (omega arith)
+    ∙ getD-append-add (bytes 4 (x .value)) (drop 4 (answerBytes x)) (at - 4) 0
+    ∙ sym (getD-append-add (bytes 4 0) (drop 4 (answerBytes x)) (at - 4) 0)
+    ∙ ap (byteAt (answerBytes (withValue 0 x))) (sym e)
 
--- of these bytes, those that landed are in byte 8 alone
-landed-in-hits : (t : Times) (n j : ℕ) → (j ≡ 4 → n ≡ 0) → byteAt (timesBytes (withLanded n t)) j ≡ byteAt (timesBytes t) j
-landed-in-hits t n j h =
-    by-test (eqb j 4)
-    (λ e.
-    let none : n ≡ 0 = h (eqb-true j 4 e) in
-    ap (λ (k : ℕ). byteAt (timesBytes (withLanded k t)) j) none
-    ∙ ap (λ (k : ℕ). byteAt (set (timesBytes t) 4 (k % 256)) j) (add-zero (t .hits)))
-    (λ e. getD-set-other (timesBytes t) 4 j ((t .hits + n) % 256) 0 (eqb-ne j 4 e))
+hits-apart : (x : Answer) (at : ℕ) → at ≢ 8 → byteAt (answerBytes x) at ≡ byteAt (answerBytes (withHits 0 x)) at
+hits-apart x at h = sym (getD-set-other (answerBytes x) 8 at 0 0 h)
 
--- a record that is no WRITE stores nothing
-stores-nothing : (r : SheetRecord) → r .kind ≢ 2 → (m : Media) (s : State) → (changed m s (stepOf r)) .puts ≡ []
+clock-tells : (r : SheetRecord) (at : ℕ) → Compared r at → (x : Answer)
+    → byteAt (answerBytes x) at ≡ byteAt (answerBytes (blanked (stepOf r) x)) at
 unfolding stepOf
-stores-nothing r h m s =
-    choose P (eqb (r .kind) 1) (λ e. refl)
-    λ e₁. choose P (eqb (r .kind) 2) (λ e. absurd (h (eqb-true (r .kind) 2 e)))
+clock-tells r at c x =
+    choose P (eqb (r .kind) 1) (λ e. value-apart x at (c .from))
+    λ e₁. choose P (eqb (r .kind) 2) (λ e. hits-apart x at (λ z. c .but-landed z (eqb-true (r .kind) 2 e)))
     λ e₂. choose P (eqb (r .kind) 3) (λ e. refl)
     λ e₃. choose P (eqb (r .kind) 4) (λ e. refl)
-    λ e₄. choose P (eqb (r .kind) 5) (λ e. refl)
+    λ e₄. choose P (eqb (r .kind) 5) (λ e. value-apart x at (c .from))
     λ e₅. choose P (eqb (r .kind) 6) (λ e. refl)
     λ e₆. choose P (eqb (r .kind) 7) (λ e. refl)
     λ e₇. choose P (eqb (r .kind) 8) (λ e. refl)
     λ e₈. refl
   where
     P : Step → Type 0
-    P x = (changed m s x) .puts ≡ []
+    P y = byteAt (answerBytes x) at ≡ byteAt (answerBytes (blanked y x)) at
 
 -- the cycles stand in the answers as they are
 cycles-past : (x : Answer) (b : List ℕ) (k n : ℕ) → cyclesFrom (answerBytes x ++ b) (suc k) n ≡ cyclesFrom b k n
@@ -222,9 +214,6 @@ cycles-stand (x ∷ xs) rest a =
     (cycles-past x (answersBytes xs ++ rest) 0 (length xs) ∙ cycles-stand xs rest (a .1))
 
 -- ---- an accepted run
-
-abbrev noTimes : Times
-noTimes = record { cycles = 0; hits = 0; count = 0; force = false }
 
 abbrev noAnswer : Answer
 noAnswer = record { value = 0; cycles = 0; hits = 0; count = 0; force = false }
@@ -274,7 +263,7 @@ module _ (i : Lent) (o : Outcome) (ok : o ≡ outcome i) (zero-number : o .numbe
   all-fit (x ∷ xs) f zero h = f .0
   all-fit (x ∷ xs) f (suc k) h = all-fit xs (f .1) k (omega arith)
 
-  time-total : o .total ≡ totalOf (timings (clockOf (i .board)) (stepsOf (i .sheet)))
+  time-total : o .total ≡ sum (cyclesIn (previewed (clockOf (i .board)) (stepsOf (i .sheet))))
   unfolding ran
   time-total = ap (λ (x : Outcome). x .total) whole ∙ run-total (mediaOf i) (firstState i) (stepsOf (i .sheet))
 
@@ -297,39 +286,28 @@ module _ (i : Lent) (o : Outcome) (ok : o ≡ outcome i) (zero-number : o .numbe
             read-back (o .answers) k (answerAt i k) (bytes-are k h)
             (rw (answer-is k h) at (all-fit ((ran i) .answers) (answers-fit i lent accepted) k (omega (arith, answers-count i))));
         summed = sum-stands;
-        limits = rw time-total (timings-limits (clockOf (i .board)) (recordsOf (i .sheet)));
+        limits = rw time-total (preview-limits (clockOf (i .board)) (recordsOf (i .sheet)));
       }
 
-  -- the bytes that step k lands
-  abbrev landedAt : ℕ → ℕ
-  landedAt k = length ((changed (mediaOf i) (stateAt i k) (stepOf (recordAt (i .sheet) k))) .puts)
-
-  -- its times are those of the run without memories, with the bytes that landed
-  times-are : (k : ℕ) → k < recordCount (i .sheet)
-      → times (answerAt i k) ≡ withLanded (landedAt k) (getD (timings (clockOf (i .board)) (stepsOf (i .sheet))) k noTimes)
-  unfolding ran stateAt
-  times-are k h =
-      ap times (sym (answer-is k h))
-      ∙ run-times (mediaOf i) (firstState i) (stepsOf (i .sheet)) k noAnswer noTimes (Latch 0) (step-there i k h)
-      ∙ ap
-      (λ (x : Step).
-      withLanded (length ((changed (mediaOf i) (stateAt i k) x) .puts))
-      (getD (timings (clockOf (i .board)) (stepsOf (i .sheet))) k noTimes))
-      (step-is i k h)
+  -- without what only the memories tell it is the preview's
+  pub blanked-is : (k : ℕ) → k < recordCount (i .sheet)
+      → blanked (stepOf (recordAt (i .sheet) k)) (answerAt i k)
+      ≡ getD (previewed (clockOf (i .board)) (stepsOf (i .sheet))) k noAnswer
+  unfolding ran
+  blanked-is k h =
+      sym
+      (each-at blanked (stepsOf (i .sheet)) ((ran i) .answers) k (Latch 0) noAnswer (step-there i k h)
+      (omega (arith, answers-count i))
+      ∙ ap₂ blanked (step-is i k h) (answer-is k h))
+      ∙ ap (λ (xs : List Answer). getD xs k noAnswer) (run-blanked (mediaOf i) (firstState i) (stepsOf (i .sheet)))
 
   column : (k at : ℕ) → k < recordCount (i .sheet) → Compared (recordAt (i .sheet) k) at
       → byteAt (o .answers) (answerStart k + at)
-      ≡ byteAt (timesBytes (getD (timings (clockOf (i .board)) (stepsOf (i .sheet))) k noTimes)) (at - 4)
+      ≡ byteAt (answerBytes (getD (previewed (clockOf (i .board)) (stepsOf (i .sheet))) k noAnswer)) at
   column k at h c =
-      let none : at - 4 ≡ 4 → landedAt k ≡ 0 =
-      λ e.
-      ap length
-      (stores-nothing (recordAt (i .sheet) k) (c .but-landed (omega (arith, c .from))) (mediaOf i) (stateAt i k))
-      in
       byte-there (o .answers) k (answerAt i k) (bytes-are k h) at (omega (arith, c .to))
-      ∙ time-byte (answerAt i k) at (c .from) (c .to)
-      ∙ ap (λ (t : Times). byteAt (timesBytes t) (at - 4)) (times-are k h)
-      ∙ landed-in-hits (getD (timings (clockOf (i .board)) (stepsOf (i .sheet))) k noTimes) (landedAt k) (at - 4) none
+      ∙ clock-tells (recordAt (i .sheet) k) at c (answerAt i k)
+      ∙ ap (λ (x : Answer). byteAt (answerBytes x) at) (blanked-is k h)
 
 -- ---- the theorem
 
@@ -339,17 +317,17 @@ module _ (i j : Lent) (s : AlikeSheets (i .sheet) (j .sheet)) (b : AlikeBoards (
       rw (← alike-count (i .sheet) (j .sheet) s)
       (alike-steps (i .sheet) (j .sheet) 0 (recordCount (i .sheet)) (λ k h. s .records k (omega arith)))
 
-  same-timings : timings (clockOf (i .board)) (stepsOf (i .sheet)) ≡ timings (clockOf (j .board)) (stepsOf (j .sheet))
-  same-timings =
-      timings-alike (clockOf (i .board)) (stepsOf (i .sheet)) (stepsOf (j .sheet)) steps-alike
-      ∙ ap (λ (c : Clock). timings c (stepsOf (j .sheet))) (alike-clock (i .board) (j .board) b)
+  pub same-preview : previewed (clockOf (i .board)) (stepsOf (i .sheet)) ≡ previewed (clockOf (j .board)) (stepsOf (j .sheet))
+  same-preview =
+      previews-alike (clockOf (i .board)) (stepsOf (i .sheet)) (stepsOf (j .sheet)) steps-alike
+      ∙ ap (λ (c : Clock). previewed c (stepsOf (j .sheet))) (alike-clock (i .board) (j .board) b)
 
   -- step by step the same cycles
   pub same-cycles : cyclesOf (ran i) ≡ cyclesOf (ran j)
   unfolding ran
   same-cycles =
       run-cycles (mediaOf i) (firstState i) (stepsOf (i .sheet))
-      ∙ ap cyclesIn same-timings
+      ∙ ap cyclesIn same-preview
       ∙ sym (run-cycles (mediaOf j) (firstState j) (stepsOf (j .sheet)))
 
 pub demand3 : (i j : Lent) (o p : Outcome) → o ≡ outcome i → p ≡ outcome j → o .number ≡ 0 → p .number ≡ 0
@@ -358,9 +336,11 @@ demand3 i j o p e f m n s b =
     record {
       columns = λ k at h c.
           column i o e m k at h c
-          ∙ ap (λ (ts : List Times). byteAt (timesBytes (getD ts k noTimes)) (at - 4)) (same-timings i j s b)
+          ∙ ap (λ (xs : List Answer). byteAt (answerBytes (getD xs k noAnswer)) at) (same-preview i j s b)
           ∙ sym (column j p f n k at (omega (arith, alike-count (i .sheet) (j .sheet) s)) (other-compared k at h c));
-      totals = time-total i o e m ∙ ap totalOf (same-timings i j s b) ∙ sym (time-total j p f n);
+      totals =
+          time-total i o e m ∙ ap (λ (xs : List Answer). sum (cyclesIn xs)) (same-preview i j s b)
+          ∙ sym (time-total j p f n);
       one = accounts i o e m;
       other = accounts j p f n;
     }

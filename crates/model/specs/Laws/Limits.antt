@@ -7,13 +7,13 @@ use native.Mathlib.Omega.{arith}
 use lib.ListN.{length}
 use lib.Dec.{eqb}
 use borrow.Author.Tests.{eqb-true}
-use Rattle.model.specs.Base.{if_then_else_, bit}
-use Rattle.model.specs.Step.{timed, clockAfter}
+use Rattle.model.specs.Base.{if_then_else_, bit, sum}
+use Rattle.model.specs.Step.{timed, clockAfter, cyclesIn}
 use Rattle.model.specs.Sheet.{recordsFrom, stepOf}
 use Rattle.model.specs.Alike.{Limits}
+use Rattle.model.specs.Preview.{previewed}
 use Rattle.model.specs.Laws.Choice.{choose, by-test, bit≤1}
 use Rattle.model.specs.Laws.Bounds.{Weight, weighing, weight, most, Bounded, step-bounded}
-use Rattle.model.specs.Laws.Times.{timings, totalOf}
 use Rattle.model.specs.declared.Clock.{Clock}
 use Rattle.model.specs.declared.SheetRecord.{SheetRecord}
 use Rattle.model.specs.declared.Step.{Step}
@@ -49,13 +49,13 @@ step-weighs r =
 pub record-bounded : (c : Clock) (r : SheetRecord) → Bounded (recordWeight r) (timed c (stepOf r))
 record-bounded c r = rw (step-weighs r) at (step-bounded c (stepOf r))
 
-pub timings-limits : (c : Clock) (rs : List SheetRecord) → Limits rs (totalOf (timings c (map stepOf rs)))
-unfolding timings
-timings-limits c [] = omega arith
-timings-limits c (r ∷ rs) =
+pub preview-limits : (c : Clock) (rs : List SheetRecord) → Limits rs (sum (cyclesIn (previewed c (map stepOf rs))))
+unfolding previewed
+preview-limits c [] = omega arith
+preview-limits c (r ∷ rs) =
     let b : Bounded (recordWeight r) (timed c (stepOf r)) = record-bounded c r in
-    let l : Limits rs (totalOf (timings (clockAfter c (stepOf r)) (map stepOf rs))) =
-    timings-limits (clockAfter c (stepOf r)) rs in
+    let l : Limits rs (sum (cyclesIn (previewed (clockAfter c (stepOf r)) (map stepOf rs)))) =
+    preview-limits (clockAfter c (stepOf r)) rs in
     omega arith
 
 -- a record whose value has 32 bits costs no more than they hold

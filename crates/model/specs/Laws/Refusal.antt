@@ -159,10 +159,10 @@ seven-refusals i =
 -- ---- the index
 
 -- 0 for 1 to 6, the first faulty record for 7, the number of records for 0
-pub record Index (i : Lent) (o : Outcome) : Type 0 where
-  pub refused : o .number ≢ 0 → o .number ≢ 7 → o .index ≡ 0
-  pub faulty-record : o .number ≡ 7 → FirstFault (i .sheet) (o .index)
-  pub accepted : o .number ≡ 0 → o .index ≡ recordCount (i .sheet)
+pub record Index (sheet : List ℕ) (number index : ℕ) : Type 0 where
+  pub refused : number ≢ 0 → number ≢ 7 → index ≡ 0
+  pub faulty-record : number ≡ 7 → FirstFault sheet index
+  pub accepted : number ≡ 0 → index ≡ recordCount sheet
 
 pub zero-index : (i : Lent) (v : Verdict) → (outcomeBy i v) .number ≢ 0 → (outcomeBy i v) .number ≢ 7 → (outcomeBy i v) .index ≡ 0
 zero-index i Accepted h k = absurd (h refl)
@@ -187,7 +187,7 @@ unfolding outcome verdict
 fault-index i d =
     rw (decides-refusal (rows i) 6 d) (first-fault (i .sheet) (ltb-true _ _ (d .1 .1 .1 .1 .1 .1)))
 
-pub index : (i : Lent) → Index i (outcome i)
+pub index : (i : Lent) → Index (i .sheet) ((outcome i) .number) ((outcome i) .index)
 unfolding outcome
 index i =
     record {

@@ -65,6 +65,20 @@ first-append (r ∷ xs) ys =
     (λ e. row-passes r _ e ∙ first-append xs ys
     ∙ sym (ap (λ (v : Verdict). orElse v (firstRow ys)) (row-passes r (firstRow xs) e)))
 
+-- a row whose number the verdict doesn't have can be left out
+pub left-out : (xs : List Row) (r : Row) (ys : List Row)
+    → verdictNumber (firstRow (xs ++ (r ∷ ys))) ≢ refusalNumber (r .refusal) → firstRow (xs ++ (r ∷ ys)) ≡ firstRow (xs ++ ys)
+left-out [] r ys h =
+    by-test (r .holds)
+    (λ e. absurd (h (ap verdictNumber (row-holds r (firstRow ys) e))))
+    (λ e. row-passes r (firstRow ys) e)
+left-out (x ∷ xs) r ys h =
+    by-test (x .holds)
+    (λ e. row-holds x _ e ∙ sym (row-holds x _ e))
+    (λ e.
+    let same = row-passes x (firstRow (xs ++ (r ∷ ys))) e in
+    same ∙ left-out xs r ys (λ z. h (ap verdictNumber same ∙ z)) ∙ sym (row-passes x (firstRow (xs ++ ys)) e))
+
 -- ---- no row
 
 pub none-accepts : (rs : List Row) → NoneHolds rs → firstRow rs ≡ Accepted
@@ -157,7 +171,7 @@ pub decided : (n : ℕ) (rs : List Row) → Rising n rs → (k : ℕ) → k < le
 decided n rs h k l = (number-decides n rs h k l, λ d. ap verdictNumber (decides-refusal rs k d))
 
 -- no refusal has number 0
-refused-number : (q : Refusal) → refusalNumber q ≢ 0
+pub refused-number : (q : Refusal) → refusalNumber q ≢ 0
 refused-number BadMark h = omega arith
 refused-number BadVersion h = omega arith
 refused-number BadShape h = omega arith
