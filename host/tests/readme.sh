@@ -10,7 +10,7 @@ rt ci|it proves everything, which takes longer
 tests/all|it runs these tests
 host/test|it is these tests
 tests/against-rust/run|it takes two minutes and needs the Rust
-tests/speed/run|it takes half a minute and needs the Rust
+tests/speed/run|it takes a minute and needs the Rust
 host/install|it writes to /usr/local; install_checks does it elsewhere
 ROWS
 }

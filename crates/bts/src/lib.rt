@@ -259,8 +259,8 @@ fn preview_accepted(sheet: &[u8], board: &[u8], answers: &mut [u8]) -> Report
     report
 }
 
-#[no_mangle]
-pub extern "C" fn bts_preview(sheet: &[u8], board: &[u8], answers: &mut [u8]) -> Report
+// The same from the examination on: an accepted sheet is priced, a refused one is told.
+fn preview_examined(sheet: &[u8], board: &[u8], answers: &mut [u8]) -> Report
     ensures { λ r. ⌜ reportedPreview r (now (sheet .exit)) (now (board .exit)) (now (answers .exit))
         ≡ preview (asking (now (sheet .entry)) (now (board .entry)) (now (answers .entry))) ⌝ }
 {
@@ -273,4 +273,13 @@ pub extern "C" fn bts_preview(sheet: &[u8], board: &[u8], answers: &mut [u8]) ->
             total: 0,
         },
     }
+}
+
+// Sheet and board are as they were at its end, and the contract says so.
+#[no_mangle]
+pub extern "C" fn bts_preview(sheet: &[u8], board: &[u8], answers: &mut [u8]) -> Report
+    ensures { λ r. ⌜ reportedPreview r (now (sheet .exit)) (now (board .exit)) (now (answers .exit))
+        ≡ preview (asking (now (sheet .entry)) (now (board .entry)) (now (answers .entry))) ⌝ }
+{
+    preview_examined(sheet, board, answers)
 }

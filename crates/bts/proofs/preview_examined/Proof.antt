@@ -1,4 +1,4 @@
--- `bts_preview` meets its contract: the verdict decides, an accepted sheet is previewed, a refused one changes nothing. Assumes
+-- `preview_examined` meets its contract: the verdict decides, an accepted sheet is previewed, a refused one changes nothing. Assumes
 -- nothing.
 use mathlib.Core.Path.{_≡_, refl, sym, ap, _∙_}
 use native.Mathlib.Omega.{arith}
@@ -8,8 +8,8 @@ use Rattle.model.specs.declared.Verdict.the-variants.{Accepted}
 use Rattle.examine.specs.Lent.{asking}
 use Rattle.examine.specs.Verdicts.{preview-index-small}
 use Rattle.bts.specs.Reported.{refused-preview}
-use Rattle.bts.proofs.bts_preview.Statement.{statement}
-use Rattle.bts.proofs.bts_preview.Tie as tie
+use Rattle.bts.proofs.preview_examined.Statement.{statement}
+use Rattle.bts.proofs.preview_examined.Tie as tie
 
 -- ---- the verdict is there
 
@@ -53,8 +53,8 @@ returns-2 c =
     (record { number = c .before .refusal-number .result; index = c .refusal-index .result; total = 0 })
     (sym (e .examine-preview .ensures) ∙ v .verdict .given .1) (c .before .refusal-number .ensures) (c .refusal-index .ensures) refl
 
-pub bts-preview-spec : {M : Type 1} → statement M
-bts-preview-spec =
+pub preview-examined-spec : {M : Type 1} → statement M
+preview-examined-spec =
     tie.close
     (tie.spec
     (λ c κs. search needs)
