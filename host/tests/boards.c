@@ -3,21 +3,12 @@
  * differ. */
 #include "board.h"
 
-#include <stdbool.h>
-#include <stdio.h>
 #include <string.h>
 
 #include "bts.h"
+#include "trial.h"
 
 enum { BOARDS = 200000, ANSWERS = 32 };
-
-static uint64_t state = 1;
-
-/* A number below n, from the upper bits of a linear congruence: the same ones in every run. */
-static uint32_t below(uint32_t n) {
-    state = state * 6364136223846793005u + 1442695040888963407u;
-    return (uint32_t)(state >> 33) % n;
-}
 
 /* Near an edge of the ROM windows, or one of their halfwords, or anything. */
 static uint32_t some_address(void) {

@@ -4,14 +4,13 @@
  * line says how many there were; the exit status is 1 if there was one. */
 #define _DEFAULT_SOURCE /* for anonymous pages */
 
-#include <stdbool.h>
-#include <stdio.h>
 #include <stdlib.h>
 #include <string.h>
 #include <sys/mman.h>
 #include <unistd.h>
 
 #include "bts.h"
+#include "trial.h"
 
 enum { SHEETS = 1500, STEPS = 60, BEYOND = 5, FAULTY = 2, CHANGED = 20000, GUARD = 0xA5 };
 
@@ -20,33 +19,6 @@ static struct {
     size_t steps, sheet_len, board_len, answers_len;
     uint8_t sheet[BTS_MOST_SHEET], board[BTS_BOARD_SIZE + 1], answers[BTS_ANSWER_SIZE * BTS_MOST_RECORDS + BEYOND];
 } lent;
-
-static unsigned long wrongs;
-
-static void expect(bool holds, const char *what, unsigned long which) {
-    if (!holds) {
-        printf("wrong: %s, %lu\n", what, which);
-        wrongs++;
-    }
-}
-
-static uint64_t state = 1;
-
-/* A number below n, from the upper bits of a linear congruence: the same ones in every run. */
-static uint32_t below(uint32_t n) {
-    state = state * 6364136223846793005u + 1442695040888963407u;
-    return (uint32_t)(state >> 33) % n;
-}
-
-static uint32_t any_number(void) {
-    return below(0x10000) << 16 | below(0x10000);
-}
-
-static void fill(uint8_t *bytes, size_t len) {
-    for (size_t i = 0; i < len; i++) {
-        bytes[i] = (uint8_t)below(256);
-    }
-}
 
 /* ---- memories */
 

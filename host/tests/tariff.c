@@ -3,11 +3,10 @@
  * how many there were; the exit status is 1 if there was one. */
 #include "money.h"
 
-#include <stdbool.h>
-#include <stdio.h>
 #include <string.h>
 
 #include "bts.h"
+#include "trial.h"
 
 enum { SHEETS = 2000, STEPS = 40, BEYOND = 5, FAULTY = 2, STORE = 1000 };
 
@@ -25,32 +24,6 @@ struct lent {
 };
 
 static struct lent lent, before, plain;
-static unsigned long wrongs;
-
-static void expect(bool holds, const char *what, unsigned long which) {
-    if (!holds) {
-        printf("wrong: %s, %lu\n", what, which);
-        wrongs++;
-    }
-}
-
-static uint64_t state = 1;
-
-/* A number below n, from the upper bits of a linear congruence: the same ones in every run. */
-static uint32_t below(uint32_t n) {
-    state = state * 6364136223846793005u + 1442695040888963407u;
-    return (uint32_t)(state >> 33) % n;
-}
-
-static uint32_t any_number(void) {
-    return below(0x10000) << 16 | below(0x10000);
-}
-
-static void fill(uint8_t *bytes, size_t len) {
-    for (size_t i = 0; i < len; i++) {
-        bytes[i] = (uint8_t)below(256);
-    }
-}
 
 /* ---- what is lent */
 

@@ -94,19 +94,24 @@ fn figures(plans: &mut Vec<Plan>) {
     }
 }
 
-/// Random lists of steps over small memories: at any place, then along code, then rows of accesses.
+/// A random list from a sound board over small memories: by its sort at any place (0), along code (1) or in rows of accesses.
+pub fn random_list(rng: &mut Rng, sort: u64, count: usize) -> Plan {
+    let memories = Memories::random(rng, 0);
+    let board = boards::any_sound(rng);
+    let steps = Steps::new(rng, &memories);
+    let records = match sort {
+        0 => steps.mixed(count),
+        1 => steps.code_run(count, &board),
+        _ => steps.rows(count, &board),
+    };
+    Plan::accepted(board, &memories, &records)
+}
+
+/// Random lists of steps, 60 of each of the first two sorts and 30 rows of accesses.
 fn lists(plans: &mut Vec<Plan>) {
     for seed in 0..150 {
         let mut rng = Rng::new(seed);
-        let memories = Memories::random(&mut rng, 0);
-        let board = boards::any_sound(&mut rng);
-        let steps = Steps::new(&mut rng, &memories);
-        let records = match seed {
-            0..=59 => steps.mixed(45),
-            60..=119 => steps.code_run(45, &board),
-            _ => steps.rows(45, &board),
-        };
-        let mut plan = Plan::accepted(board, &memories, &records);
+        let mut plan = random_list(&mut rng, seed / 60, 45);
         plan.answers_len += rng.below(14);
         plans.push(plan);
     }

@@ -1,13 +1,11 @@
 //! The sample's cases under a tariff (document 02, W-202), which stand behind all others.
 
 use crate::bills::{self, MILLION};
-use crate::boards;
 use crate::bytes::*;
 use crate::gen::{Memories, Plan, Rng};
 use crate::notation;
 use crate::refusals::{self, Short};
-use crate::sample::{few, prefetch_on, small_enough};
-use crate::steps::Steps;
+use crate::sample::{few, prefetch_on, random_list, small_enough};
 use crate::sweeps::one_of_each;
 use crate::tariffs::TARIFFS;
 
@@ -65,16 +63,9 @@ fn lengths(plans: &mut Vec<Plan>) {
 fn lists(plans: &mut Vec<Plan>) {
     for seed in 0..9 {
         let mut rng = Rng::new(30_000 + seed);
-        let memories = Memories::random(&mut rng, 0);
-        let board = boards::any_sound(&mut rng);
-        let steps = Steps::new(&mut rng, &memories);
-        let records = match seed {
-            0..=2 => steps.mixed(40),
-            3..=5 => steps.code_run(40, &board),
-            _ => steps.rows(40, &board),
-        };
+        let plan = random_list(&mut rng, seed / 3, 40);
         let (rate, length) = (bills::good_rate(&mut rng), bills::enough(&mut rng, 40));
-        plans.push(Plan::accepted(board, &memories, &records).billed(length, rate, 0));
+        plans.push(plan.billed(length, rate, 0));
     }
     for rate in [1, 307, 333_333, MILLION - 1] {
         let records = bills::edges(&mut Rng::new(rate.into()), rate, 60);

@@ -2,11 +2,11 @@
 
 use crate::boards;
 use crate::bytes::*;
-use crate::gen::{Memories, Plan, Rng};
+use crate::gen::{Plan, Rng};
 use crate::notation;
 use crate::previews::PREVIEWS;
 use crate::refusals;
-use crate::sample::{few, prefetch_on, small_enough};
+use crate::sample::{few, prefetch_on, random_list, small_enough};
 use crate::steps::Steps;
 use crate::sweeps::one_of_each;
 
@@ -38,15 +38,7 @@ fn by_hand(plans: &mut Vec<Plan>) {
 fn lists(plans: &mut Vec<Plan>) {
     for seed in 0..9 {
         let mut rng = Rng::new(50_000 + seed);
-        let memories = Memories::random(&mut rng, 0);
-        let board = boards::any_sound(&mut rng);
-        let steps = Steps::new(&mut rng, &memories);
-        let records = match seed {
-            0..=2 => steps.mixed(40),
-            3..=5 => steps.code_run(40, &board),
-            _ => steps.rows(40, &board),
-        };
-        let mut plan = Plan::accepted(board, &memories, &records);
+        let mut plan = random_list(&mut rng, seed / 3, 40);
         plan.answers_len += rng.below(14);
         plans.push(plan);
     }

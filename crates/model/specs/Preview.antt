@@ -85,26 +85,17 @@ previewVerdict q = firstRow (previewRows q)
 unfoldable pub previewAnswers : Asked → List Answer
 previewAnswers q = previewed (clockOf (q .board)) (stepsOf (q .sheet))
 
--- sheet and board are only read; a refusal leaves the answers as lent
+-- sheet and board are only read: they are as they were lent
+abbrev pub giving : Asked → ℕ → ℕ → ℕ → List ℕ → Previewed
+giving q number index total answers =
+    record { number = number; index = index; total = total; sheet = q .sheet; board = q .board; answers = answers }
+
+-- a refusal leaves the answers too; an accepted sheet has one for each record
 abbrev pub previewBy : Asked → Verdict → Previewed
-previewBy q (Refused r) =
-    record {
-      number = refusalNumber r;
-      index = refusalIndex r;
-      total = 0;
-      sheet = q .sheet;
-      board = q .board;
-      answers = q .answers;
-    }
+previewBy q (Refused r) = giving q (refusalNumber r) (refusalIndex r) 0 (q .answers)
 previewBy q Accepted =
-    record {
-      number = 0;
-      index = recordCount (q .sheet);
-      total = sum (cyclesIn (previewAnswers q));
-      sheet = q .sheet;
-      board = q .board;
-      answers = answersBytes (previewAnswers q) ++ drop (answerLength * recordCount (q .sheet)) (q .answers);
-    }
+    giving q 0 (recordCount (q .sheet)) (sum (cyclesIn (previewAnswers q)))
+    (answersBytes (previewAnswers q) ++ drop (answerLength * recordCount (q .sheet)) (q .answers))
 
 unfoldable pub preview : Asked → Previewed
 preview q = previewBy q (previewVerdict q)
@@ -154,14 +145,8 @@ answered o = if eqb (o .number) 0 then o .index else 0
 -- what a run gave, with these zeros in its answers
 abbrev pub withZeros : Asked → Outcome → Previewed
 withZeros q o =
-    record {
-      number = o .number;
-      index = o .index;
-      total = o .total;
-      sheet = q .sheet;
-      board = q .board;
-      answers = eachAnswer zeroed (recordsFrom (q .sheet) 0 (answered o)) (o .answers);
-    }
+    giving q (o .number) (o .index) (o .total)
+    (eachAnswer zeroed (recordsFrom (q .sheet) 0 (answered o)) (o .answers))
 
 -- memories with which a run of the sheet is accepted
 pub record SomeRun (q : Asked) : Type 0 where

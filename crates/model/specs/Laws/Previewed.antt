@@ -18,7 +18,7 @@ use Rattle.model.specs.Outcome.{Lent, row, firstRow, sheetRows, boardRow
 use Rattle.model.specs.Outcome.{sizesFit, verdict, refusalNumber, refusalIndex, verdictNumber}
 use Rattle.model.specs.Outcome.{mediaOf, firstState, ran, outcomeBy, outcome}
 use Rattle.model.specs.Alike.{AlikeSheets, AlikeBoards, Limits}
-use Rattle.model.specs.Preview.{Asked, Previewed, previewRows, previewVerdict, previewAnswers, previewBy, preview}
+use Rattle.model.specs.Preview.{Asked, Previewed, previewRows, previewVerdict, previewAnswers, giving, previewBy, preview}
 use Rattle.model.specs.Preview.{Memories, noMemories, lentWith, zeroed, eachAnswer, withZeros, SomeRun, AsRun}
 use Rattle.model.specs.Laws.Choice.{choose, by-test}
 use Rattle.model.specs.Laws.Times.{blanked, eachStep, run-blanked, run-total}
@@ -98,25 +98,9 @@ module _ (q : Asked) (m : Memories) where
 
   by-verdict : (v : Verdict) → withZeros q (outcomeBy (lentWith q m) v) ≡ previewBy q v
   by-verdict Accepted =
-      λ x.
-      record {
-        number = 0;
-        index = recordCount (q .sheet);
-        total = preview-total x;
-        sheet = q .sheet;
-        board = q .board;
-        answers = zeroed-run (drop (answerLength * recordCount (q .sheet)) (q .answers)) x;
-      }
-  by-verdict (Refused r) =
-      λ x.
-      record {
-        number = refusalNumber r;
-        index = refusalIndex r;
-        total = 0;
-        sheet = q .sheet;
-        board = q .board;
-        answers = none-answered r (q .answers) x;
-      }
+      ap₂ (giving q 0 (recordCount (q .sheet))) preview-total
+      (zeroed-run (drop (answerLength * recordCount (q .sheet)) (q .answers)))
+  by-verdict (Refused r) = ap (giving q (refusalNumber r) (refusalIndex r) 0) (none-answered r (q .answers))
 
   -- the run's fourth row is left out, where it doesn't decide
   same-verdict : (outcome (lentWith q m)) .number ≢ 4 → verdict (lentWith q m) ≡ previewVerdict q
