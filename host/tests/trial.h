@@ -1,4 +1,4 @@
-/* What the trials of many made inputs have in common: numbers that are the same in every run, and the count of what went wrong. */
+/* What the trials of many made inputs share: numbers that are the same in every run, and the count of what went wrong. */
 #ifndef TESTS_TRIAL_H
 #define TESTS_TRIAL_H
 

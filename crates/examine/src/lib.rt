@@ -152,7 +152,7 @@ pub fn examine_lent(
     examine_board(board)
 }
 
-// The rows with which the table of a run and of a preview ends: room for the answers, and the records of a sheet that has its shape.
+// The rows with which the table of a run and of a preview ends: room for the answers, and the records. The sheet has its shape.
 fn examine_rest(sheet: &[u8], answers: usize) -> Verdict
     requires { ⌜ Shaped (now sheet) ⌝ }
     ensures { λ r. ⌜ r ≡ def.firstRow (restRows (now (sheet .entry)) answers) ⌝ }

@@ -1,31 +1,31 @@
--- A word that stands in one memory, or past its end: its number by the part that was lent, its low bytes by their mask, and the aligned load
--- that they are. Assumes nothing.
+-- A word that stands in one memory: its number by the part that was lent, its low bytes by their mask, and the aligned load
+-- that they are; and an aligned load where nothing is lent. Assumes nothing.
 use mathlib.Core.Path.{_≡_, refl, _∙_, ap, sym}
-use mathlib.Core.Bool.{false, false≢true}
-use mathlib.Core.List.{List}
-use Prim.Native.Nat.{ℕ, zero, suc, _+_, _-_, _%_, _^_, _≤_, _<_}
-use native.Mathlib.Nat.{add-assoc, zero-add}
+use mathlib.Core.Bool.{true, false, false≢true}
+use mathlib.Core.List.{List, [], _∷_}
+use Prim.Native.Nat.{ℕ, zero, suc, _+_, _-_, _/_, _%_, _^_, _≤_, _<_}
+use native.Mathlib.Nat.{add-assoc, zero-add, zero-mod}
 use native.Mathlib.Omega.{arith}
 use lib.ListN.{length, take, drop}
 use lib.Bits.{bitAnd, and-mask}
-use lib.Dec.{ltb, leb}
+use lib.Dec.{ltb}
 use lib.Seq.{getD-take, getD-drop}
-use borrow.Author.Tests.{ltb-false, leb-true}
-use Rattle.model.specs.Base.{number, AllBytes}
+use borrow.Author.Tests.{ltb-false}
+use Rattle.model.specs.Base.{byteAt, number, AllBytes}
 use Rattle.model.specs.Mirror.{romOffset}
 use Rattle.model.specs.Wait.{sizeBytes}
-use Rattle.model.specs.Memory.{target}
-use Rattle.model.specs.Load.{Bus, load}
-use Rattle.model.specs.Laws.Choice.{choose}
-use Rattle.model.specs.Laws.Aligned.{AlignedWord, AlignedPart, part-stands, part-past, plain-aligned, video-aligned}
-use Rattle.model.specs.Laws.Aligned.{rom-aligned, aligned-load}
+use Rattle.model.specs.Memory.{byteIn, target, isSram}
+use Rattle.model.specs.Load.{Bus, byteFrom, load8, load}
+use Rattle.model.specs.Laws.Choice.{choose, either}
+use Rattle.model.specs.Laws.Near.{around, moved, near}
+use Rattle.model.specs.Laws.Aligned.{AlignedWord, plain-aligned, video-aligned, rom-aligned, aligned-load}
 use Rattle.model.specs.declared.AccessSize.{AccessSize}
 use Rattle.model.specs.declared.AccessSize.the-variants.{Byte, Half, Word}
 use Rattle.model.specs.declared.Lengths.{Lengths}
 use Rattle.model.specs.declared.Part.{Part}
 use Rattle.model.specs.declared.Target.{Target}
 use Rattle.model.specs.declared.Target.the-variants.{Unused, SystemRom, GamePakRom, Plain, Video, Sram}
-use Rattle.loads.specs.Words.{wordAt, wordIn, wordFrom}
+use Rattle.loads.specs.Words.{wordAt, wordFrom, readsZero}
 use Rattle.loads.specs.declared.Loaded.{Loaded}
 use Rattle.loads.specs.declared.Loaded.the-variants as loaded
 
@@ -54,28 +54,11 @@ found xs base n i {w} =
     (λ e h. let z : _≡_ {A = ℕ} 0 1 = cc in absurd (omega arith))
     (λ e h. record { all = ltb-false n (i + 4) e; word = cc })
 
--- one found in a memory of the store is all there, or past its end
-module _ (xs : List ℕ) (p : Part) (i : ℕ) where
-  pub in-memory : (A : Type 0) {w : ℕ} → wordIn xs p i ≡ loaded.Word w
-      → (p .size ≤ i → w ≡ 0 → A) → (Stands xs (p .base) (p .size) i w → A) → A
-  unfolding wordIn
-  in-memory A {w} h past there =
-      choose (λ (r : Loaded). r ≡ loaded.Word w → A) (leb (p .size) i)
-      (λ e k. past (leb-true (p .size) i e) (sym cc))
-      (λ e k. there (found xs (p .base) (p .size) i k)) h
-
 module _ (l : Lengths) (b : Bus) (z : AccessSize) (a : ℕ) (fits : a < 2 ^ 32) (aligned : a % sizeBytes z ≡ 0)
     (store : AllBytes (b .store)) (rom : AllBytes (b .rom)) where
   -- the low bytes of a word where the load's bytes stand
   low : {xs : List ℕ} {q w : ℕ} → AllBytes xs → AlignedWord l b a xs q → w ≡ number 4 xs q → w % 256 ^ sizeBytes z ≡ load l b z a
   low {xs} {q} k s e = ap (λ (n : ℕ). n % 256 ^ sizeBytes z) e ∙ sym (aligned-load l b a fits xs q s k z aligned)
-
-  in-part : (p : Part) (i : ℕ) {w : ℕ} → AlignedPart l b a p i → wordIn (b .store) p i ≡ loaded.Word w
-      → w % 256 ^ sizeBytes z ≡ load l b z a
-  in-part p i s h =
-      in-memory (b .store) p i _ h
-      (λ past none. low (λ j. omega arith) (part-past l b a p i s past) none)
-      (λ found. low store (part-stands l b a p i s (found .all)) (found .word))
 
   by-target : (t : Target) {w : ℕ} → target l a ≡ t → wordFrom (b .rom) (b .store) a t ≡ loaded.Word w
       → w % 256 ^ sizeBytes z ≡ load l b z a
@@ -84,11 +67,61 @@ module _ (l : Lengths) (b : Bus) (z : AccessSize) (a : ℕ) (fits : a < 2 ^ 32) 
   by-target GamePakRom e h =
       let s = found (b .rom) 0 (length (b .rom)) (romOffset a) h in
       low rom (rom-aligned l b a e) (s .word ∙ ap (number 4 (b .rom)) (zero-add (romOffset a)))
-  by-target (Plain p i) e h = in-part p i (plain-aligned l b a p i e) h
-  by-target (Video m p i) e h = in-part p i (video-aligned l b a m p i e) h
+  by-target (Plain p i) e h =
+      let s = found (b .store) (p .base) (p .size) i h in
+      low store (plain-aligned l b a p i e (s .all)) (s .word)
+  by-target (Video m p i) e h =
+      let s = found (b .store) (p .base) (p .size) i h in
+      low store (video-aligned l b a m p i e (s .all)) (s .word)
   by-target (Sram p i) e h = let x : _≡_ {A = ℕ} 0 1 = cc in absurd (omega arith)
 
   -- the word that was found has the load in its low bytes
   pub word-loads : (t : Target) {w : ℕ} → t ≡ target l a → wordFrom (b .rom) (b .store) a t ≡ loaded.Word w
       → w % 256 ^ sizeBytes z ≡ load l b z a
   word-loads t e h = by-target t (sym e) h
+
+-- ---- where neither a store nor a ROM is lent
+
+pub no-bytes : (xs : List ℕ) → length xs ≡ 0 → xs ≡ []
+no-bytes [] h = refl
+no-bytes (x ∷ xs) h = absurd (omega (arith, h))
+
+empty-byte : (p : Part) (i : ℕ) → byteIn [] p i ≡ 0
+unfolding byteIn
+empty-byte p i = either (λ (n : ℕ). n ≡ 0) (ltb i (p .size)) refl refl
+
+module _ (l : Lengths) (b : Bus) (a : ℕ) (store : b .store ≡ []) (rom : b .rom ≡ []) where
+  -- every byte of the word around an address is 0, and none is one that a load repeats
+  zero-byte : (t : Target) (x j : ℕ) → readsZero t ≡ true → byteFrom b x (moved t j) ≡ 0
+  zero-byte Unused x j h = refl
+  zero-byte SystemRom x j h = absurd (false≢true h)
+  zero-byte GamePakRom x j h = ap (λ (xs : List ℕ). byteAt xs (romOffset x)) rom
+  zero-byte (Plain p i) x j h = ap (λ (xs : List ℕ). byteIn xs p (around i j)) store ∙ empty-byte p (around i j)
+  zero-byte (Video m p i) x j h = ap (λ (xs : List ℕ). byteIn xs p (around i j)) store ∙ empty-byte p (around i j)
+  zero-byte (Sram p i) x j h = absurd (false≢true h)
+
+  not-repeated : (t : Target) (j : ℕ) → readsZero t ≡ true → isSram (moved t j) ≡ false
+  not-repeated Unused j h = refl
+  not-repeated SystemRom j h = refl
+  not-repeated GamePakRom j h = refl
+  not-repeated (Plain p i) j h = refl
+  not-repeated (Video m p i) j h = refl
+  not-repeated (Sram p i) j h = absurd (false≢true h)
+
+  nothing-there : (t : Target) → target l a ≡ t → readsZero t ≡ true → AlignedWord l b a [] 0
+  unfolding load8
+  nothing-there t e h =
+      record {
+        byte = λ j k. ap (byteFrom b (a + j)) (there j k) ∙ zero-byte t (a + j) ((a + j) % 4) h;
+        plain = λ j k. ap isSram (there j k) ∙ not-repeated t ((a + j) % 4) h;
+      }
+    where
+      there : (j : ℕ) → (a + j) / 4 ≡ a / 4 → target l (a + j) ≡ moved t ((a + j) % 4)
+      there j k = near l a (a + j) k ∙ ap (λ (u : Target). moved u ((a + j) % 4)) e
+
+  -- so an aligned load is 0
+  pub nothing-loads : (z : AccessSize) (t : Target) → a < 2 ^ 32 → a % sizeBytes z ≡ 0 → t ≡ target l a → readsZero t ≡ true
+      → 0 ≡ load l b z a
+  nothing-loads z t fits aligned e h =
+      sym
+      (aligned-load l b a fits [] 0 (nothing-there t (sym e) h) (λ j. omega arith) z aligned ∙ zero-mod (256 ^ sizeBytes z))

@@ -119,8 +119,7 @@ fn read32(
 
 // ---- an aligned load, which lies in one memory
 
-// `Option<u32>`: the word at a place, if all four bytes of it stand in the memory, or none and it is 0. (In ROM one that lies past
-// the image is left to its bytes: to ask for that too made every opcode of a run slower.)
+// `Option<u32>`: the word at a place, if all four bytes of it stand in the memory.
 pub enum Loaded {
     Word(u32),
     Apart,
@@ -131,9 +130,6 @@ fn word_in(store: &[u8], part: Part, index: usize) -> Loaded
     ensures { λ r. ⌜ r ≡ words.wordIn (now (store .entry)) part index ⌝ }
 {
     if part.size < index + 4 {
-        if part.size <= index {
-            return Loaded::Word(0);
-        }
         return Loaded::Apart;
     }
     let base = part.base;
@@ -182,7 +178,22 @@ fn low_bytes(size: AccessSize, word: u32) -> u32
     word & low_mask(size)
 }
 
-// By bytes, each decoded by itself, as the Rust does it.
+// Whether a load finds only zeros there where neither a store nor a ROM is lent: not in the BIOS, which has its latch, and not in
+// SRAM, which has 0xFF without a chip.
+fn reads_zero(target: Target) -> bool
+    ensures { λ r. ⌜ r ≡ words.readsZero target ⌝ }
+{
+    match target {
+        Target::Unused => true,
+        Target::SystemRom => false,
+        Target::GamePakRom => true,
+        Target::Plain(_part, _index) => true,
+        Target::Video(_memory, _part, _index) => true,
+        Target::Sram(_part, _index) => false,
+    }
+}
+
+// By bytes, each decoded by itself, as the Rust does it. Over no store and no ROM, as in a preview, an aligned load is 0 at once.
 fn read_apart(
     size: AccessSize,
     target: Target,
@@ -197,6 +208,9 @@ fn read_apart(
     requires { ⌜ Meets target lengths addr (now store) ⌝ }
     ensures { λ r. ⌜ r ≡ def.load lengths (bus pc latch (now (bios .entry)) (now (rom .entry)) (now (store .entry))) size addr ⌝ }
 {
+    if (addr % size_bytes(size) == 0) & (store.len() == 0) & (rom.len() == 0) & reads_zero(target) {
+        return 0;
+    }
     match size {
         AccessSize::Byte => read8(target, addr, pc, latch, bios, rom, store) as u32,
         AccessSize::Half => read16(target, addr, pc, latch, bios, rom, store, lengths) as u32,

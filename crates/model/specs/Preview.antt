@@ -155,7 +155,7 @@ pub record SomeRun (q : Asked) : Type 0 where
 
 -- the customer's sentence
 pub record AsRun (q : Asked) (p : Previewed) : Type 0 where
-  -- for all memories but those whose lengths the run refuses (4), so for all that it accepts: what the run gives, but for the zeros
+  -- for all memories but those whose lengths the run refuses (4), so for all that it accepts: the run's outcome, with the zeros
   pub same : (m : Memories) → (outcome (lentWith q m)) .number ≢ 4 → p ≡ withZeros q (outcome (lentWith q m))
   -- accepted exactly when the run with some memories is
   pub some-run : p .number ≡ 0 → SomeRun q

@@ -1,5 +1,5 @@
-// Price before running: what is left to do to the answers of a run over no memories, so that they are a preview's. Only the values
-// of INSTRUCTION are told by the clock; every other one is set to 0. From document 02, W-205.
+// Price before running: what is left to do to the answers of a run over no memories, so that they are a preview's. Only the
+// values of INSTRUCTION are told by the clock; every other one is set to 0. From document 02, W-205.
 use model::ANSWER_LENGTH;
 use model::HEADER_LENGTH;
 use model::RECORD_LENGTH;
@@ -31,7 +31,8 @@ fn put_told(out: &mut [u8], kind: u8)
 // The values of n answers, from the last to the first: the last are the ones at hand.
 pub fn put_values(sheet: &[u8], n: usize, answers: &mut [u8])
     requires { ⌜ Answered n (now sheet) (now answers) ⌝ }
-    ensures { λ _. ⌜ now (answers .exit) ≡ eachAnswer clockValued (recordsFrom (now (sheet .entry)) 0 n) (now (answers .entry)) ⌝ }
+    ensures { λ _. ⌜ now (answers .exit)
+        ≡ eachAnswer clockValued (recordsFrom (now (sheet .entry)) 0 n) (now (answers .entry)) ⌝ }
 {
     let mut k = n;
     while k > 0 {

@@ -1,11 +1,11 @@
 -- `preview_accepted` meets its contract: the copy is the board, the run over no memories accepts what the preview does, and with
 -- the values told its answers are the preview's. Assumes nothing.
-use mathlib.Core.Path.{_≡_, refl, sym, ap₂, _∙_}
+use mathlib.Core.Path.{_≡_, refl, ap₂, _∙_}
 use mathlib.Core.List.{List, []}
 use Prim.Native.Nat.{ℕ}
 use native.Mathlib.Omega.{arith}
 use borrow.Author.Needs.{needs}
-use Rattle.model.specs.Outcome.{Lent, Outcome, verdict, outcomeBy}
+use Rattle.model.specs.Outcome.{Lent, verdict, outcomeBy}
 use Rattle.model.specs.Preview.{Asked, noMemories, lentWith}
 use Rattle.model.specs.declared.Lengths.{Lengths}
 use Rattle.model.specs.declared.Verdict.the-variants.{Accepted}

@@ -1,5 +1,5 @@
--- `preview_examined` meets its contract: the verdict decides, an accepted sheet is previewed, a refused one changes nothing. Assumes
--- nothing.
+-- `preview_examined` meets its contract: the verdict decides, an accepted sheet is priced, a refused one changes nothing.
+-- Assumes nothing.
 use mathlib.Core.Path.{_≡_, refl, sym, ap, _∙_}
 use native.Mathlib.Omega.{arith}
 use borrow.Author.Needs.{needs}
@@ -43,7 +43,8 @@ index-fits : tie.Need-cast-t13
 index-fits c =
     let v = refused c in
     let e = v .before .before in
-    omega (arith, c .refusal-index .ensures, preview-index-small (asked e) _ (sym (e .examine-preview .ensures) ∙ v .verdict .given .1))
+    omega
+    (arith, c .refusal-index .ensures, preview-index-small (asked e) _ (sym (e .examine-preview .ensures) ∙ v .verdict .given .1))
 
 returns-2 : tie.Need-returns-2
 returns-2 c =
@@ -51,7 +52,8 @@ returns-2 c =
     let e = v .before .before in
     refused-preview (asked e) _
     (record { number = c .before .refusal-number .result; index = c .refusal-index .result; total = 0 })
-    (sym (e .examine-preview .ensures) ∙ v .verdict .given .1) (c .before .refusal-number .ensures) (c .refusal-index .ensures) refl
+    (sym (e .examine-preview .ensures) ∙ v .verdict .given .1) (c .before .refusal-number .ensures) (c .refusal-index .ensures)
+    refl
 
 pub preview-examined-spec : {M : Type 1} → statement M
 preview-examined-spec =

@@ -1,4 +1,4 @@
--- `examine_preview` meets its contract: a part that refuses decides the verdict, one that accepts leaves it to the parts behind it.
+-- `examine_preview` meets its contract: a part that refuses decides the verdict, one that accepts leaves it to those behind it.
 -- Assumes nothing.
 use mathlib.Core.Path.{_≡_, sym, _∙_}
 use mathlib.Core.List.{List, [], _++_}

@@ -1,8 +1,8 @@
 -- `word_in` meets its contract: the leaf reads the lent part. Assumes nothing.
 use mathlib.Core.Path.{ap, _∙_}
 use Prim.Native.Nat.{_+_, _-_}
-use borrow.Author.Tests.{lt-ltb, le-ltb, lt-leb, le-leb}
-use Rattle.loads.specs.Words.{wordAt, wordIn}
+use borrow.Author.Tests.{lt-ltb, le-ltb}
+use Rattle.loads.specs.Words.{wordAt}
 use Rattle.loads.specs.declared.Loaded.the-variants.{Word}
 use Rattle.loads.proofs.Words.{number-part}
 use native.Mathlib.Omega.{arith}
@@ -10,25 +10,19 @@ use borrow.Author.Needs.{needs}
 use Rattle.loads.proofs.word_in.Statement.{statement}
 use Rattle.loads.proofs.word_in.Tie as tie
 
--- past the end
 returns : tie.Need-returns
-unfolding wordIn
-returns c = simp (le-leb _ _ (c .if2 .taken))
+unfolding wordAt
+returns c = simp (lt-ltb _ _ (c .if1 .taken))
 
 returns-2 : tie.Need-returns-2
-unfolding wordIn wordAt
-returns-2 c = simp (lt-leb _ _ (c .if2 .left), lt-ltb _ _ (c .before .before .if1 .taken))
-
-returns-3 : tie.Need-returns-3
-unfolding wordIn wordAt
-returns-3 c =
+unfolding wordAt
+returns-2 c =
     let start = c .before .before .before .before .before .before in
     let p = start .args .part in
-    let whole = c .before .before .before .if1 .left in
     ap Word
     (c .read32 .ensures
     ∙ number-part 4 (start .args .store .now) (p .base) (p .base + p .size - p .base) (start .args .index) (omega arith))
-    ∙ simp (lt-leb (p .size) (start .args .index) (omega (arith, whole)), le-ltb _ _ whole)
+    ∙ simp (le-ltb _ _ (c .before .before .before .if1 .left))
 
 pub word-in-spec : {M : Type 1} → statement M
 word-in-spec =
@@ -36,10 +30,9 @@ word-in-spec =
     (tie.spec
     (λ c. search needs)
     returns
-    returns-2
     (λ c. search needs)
     (λ c. search needs)
     (λ c. search needs)
     (λ c. search needs)
     (λ c κs. search needs)
-    returns-3)
+    returns-2)

@@ -1,12 +1,11 @@
--- Aligned loads: the bytes of one stand one after the other in one memory, or past its end, so that it is the number in them, for
--- every size.
+-- Aligned loads: the bytes of one stand one after the other in one memory, so that it is the number in them, for every size.
 use mathlib.Core.Path.{_≡_, refl, sym, _∙_, ap, ap₂}
 use mathlib.Core.Bool.{false}
-use mathlib.Core.List.{List, []}
+use mathlib.Core.List.{List}
 use Prim.Native.Nat.{ℕ, _+_, _*_, _/_, _%_, _^_, _≤_, _<_}
 use native.Mathlib.Omega.{arith}
 use native.Mathlib.Nat.{add-zero, add-mul-mod-self-left, mod-eq-of-lt}
-use borrow.Author.Tests.{lt-ltb, le-ltb}
+use borrow.Author.Tests.{lt-ltb}
 use Rattle.model.specs.Base.{further, lowered, byteAt, number, AllBytes}
 use Rattle.model.specs.Mirror.{romOffset}
 use Rattle.model.specs.Wait.{sizeBytes}
@@ -65,36 +64,17 @@ module _ (l : Lengths) (b : Bus) (a : ℕ) (t : a < 2 ^ 32) (xs : List ℕ) (q :
 
 -- ---- the memories whose bytes stand so
 
--- those of a part of the store, from an index on: they stand there, or lie past its end
-pub record AlignedPart (l : Lengths) (b : Bus) (a : ℕ) (p : Part) (i : ℕ) : Type 0 where
-  pub byte : (j : ℕ) → (a + j) / 4 ≡ a / 4 → load8 l b (a + j) ≡ byteIn (b .store) p (i + j)
-  pub plain : (j : ℕ) → (a + j) / 4 ≡ a / 4 → isSram (target l (a + j)) ≡ false
-
-module _ (l : Lengths) (b : Bus) (a : ℕ) (p : Part) (i : ℕ) (s : AlignedPart l b a p i) where
-  pub part-stands : i + 4 ≤ p .size → AlignedWord l b a (b .store) (p .base + i)
-  unfolding byteIn
-  part-stands h =
-      record {
-        byte = λ j k.
-            s .byte j k ∙ if-true _ _ _ (lt-ltb (i + j) (p .size) (omega arith)) ∙ ap (byteAt (b .store)) (omega arith);
-        plain = s .plain;
-      }
-
-  -- where there is no byte
-  pub part-past : p .size ≤ i → AlignedWord l b a [] 0
-  unfolding byteIn
-  part-past h = record { byte = λ j k. s .byte j k ∙ if-false _ _ _ (le-ltb (i + j) (p .size) (omega arith)); plain = s .plain }
+byte-there : (s : List ℕ) (p : Part) (i k : ℕ) → k ≡ i → i < p .size → byteIn s p k ≡ byteAt s (p .base + i)
+unfolding byteIn
+byte-there s p i k e h = rw e (if-true _ _ _ (lt-ltb i (p .size) h))
 
 module _ (l : Lengths) (b : Bus) (a : ℕ) where
-  -- the place of a byte in the word around the address, where the address itself has place i
-  place : (i j : ℕ) → i ≡ around i (a % 4) → (a + j) / 4 ≡ a / 4 → around i ((a + j) % 4) ≡ i + j
-  place i j own k = omega (arith, own)
-
-  pub plain-aligned : (p : Part) (i : ℕ) → target l a ≡ Plain p i → AlignedPart l b a p i
+  pub plain-aligned : (p : Part) (i : ℕ) → target l a ≡ Plain p i → i + 4 ≤ p .size → AlignedWord l b a (b .store) (p .base + i)
   unfolding load8
-  plain-aligned p i e =
+  plain-aligned p i e h =
       record {
-        byte = λ j k. ap (byteFrom b (a + j)) (there j k) ∙ ap (byteIn (b .store) p) (place i j own k);
+        byte = λ j k. ap (byteFrom b (a + j)) (there j k)
+            ∙ byte-there (b .store) p (i + j) _ (place j k) (omega arith) ∙ ap (byteAt (b .store)) (omega arith);
         plain = λ j k. ap isSram (there j k);
       }
     where
@@ -107,11 +87,16 @@ module _ (l : Lengths) (b : Bus) (a : ℕ) where
           sym e ∙ near l a a refl ∙ ap (λ (t : Target). moved t (a % 4)) e in
           cc
 
-  pub video-aligned : (m : VideoMemory) (p : Part) (i : ℕ) → target l a ≡ Video m p i → AlignedPart l b a p i
+      place : (j : ℕ) → (a + j) / 4 ≡ a / 4 → around i ((a + j) % 4) ≡ i + j
+      place j k = omega (arith, own)
+
+  pub video-aligned : (m : VideoMemory) (p : Part) (i : ℕ) → target l a ≡ Video m p i
+      → i + 4 ≤ p .size → AlignedWord l b a (b .store) (p .base + i)
   unfolding load8
-  video-aligned m p i e =
+  video-aligned m p i e h =
       record {
-        byte = λ j k. ap (byteFrom b (a + j)) (there j k) ∙ ap (byteIn (b .store) p) (place i j own k);
+        byte = λ j k. ap (byteFrom b (a + j)) (there j k)
+            ∙ byte-there (b .store) p (i + j) _ (place j k) (omega arith) ∙ ap (byteAt (b .store)) (omega arith);
         plain = λ j k. ap isSram (there j k);
       }
     where
@@ -123,6 +108,9 @@ module _ (l : Lengths) (b : Bus) (a : ℕ) where
           let same : Video m p i ≡ Video m p (around i (a % 4)) =
           sym e ∙ near l a a refl ∙ ap (λ (t : Target). moved t (a % 4)) e in
           cc
+
+      place : (j : ℕ) → (a + j) / 4 ≡ a / 4 → around i ((a + j) % 4) ≡ i + j
+      place j k = omega (arith, own)
 
   pub rom-aligned : target l a ≡ GamePakRom → AlignedWord l b a (b .rom) (romOffset a)
   unfolding load8

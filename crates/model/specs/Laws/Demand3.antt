@@ -8,7 +8,7 @@ use mathlib.Core.List.{List, [], _∷_, _++_, map}
 use Prim.Native.Nat.{ℕ, zero, suc, _+_, _-_, _*_, _%_, _≤_, _<_}
 use native.Mathlib.Omega.{arith}
 use native.Mathlib.Nat.{add-zero, add-assoc, mod-eq-of-lt}
-use lib.ListN.{length, getD, take, drop, set, length-map, List·getD-append}
+use lib.ListN.{length, getD, take, drop, length-map}
 use lib.Seq.{getD-append-add, getD-take, getD-drop, getD-set-other, drop-drop}
 use lib.Dec.{eqb}
 use borrow.Author.Tests.{eqb-true}
@@ -20,7 +20,7 @@ use Rattle.model.specs.BoardBytes.{answerLength, clockOf, answerBytes, a
 use Rattle.model.specs.Outcome.{Lent, LentBytes, Outcome, mediaOf, firstState, ran, outcomeBy, outcome}
 use Rattle.model.specs.Alike.{AlikeRecords, AlikeSheets, AlikeBoards, stateAt, answerAt, answerStart}
 use Rattle.model.specs.Alike.{ReadBack, cyclesFrom, Accounts, Compared, Demand3}
-use Rattle.model.specs.Laws.Choice.{All, choose, choose₂, by-test, tests, eqb-ne}
+use Rattle.model.specs.Laws.Choice.{All, choose, choose₂, tests, eqb-ne}
 use Rattle.model.specs.Preview.{previewed}
 use Rattle.model.specs.Laws.Times.{withHits, withValue, blanked, run-blanked, each-at, run-cycles, run-total}
 use Rattle.model.specs.Laws.Times.{Shown, shown, SameTime, SameTimes, previews-alike}
@@ -290,7 +290,7 @@ module _ (i : Lent) (o : Outcome) (ok : o ≡ outcome i) (zero-number : o .numbe
       }
 
   -- without what only the memories tell it is the preview's
-  pub blanked-is : (k : ℕ) → k < recordCount (i .sheet)
+  blanked-is : (k : ℕ) → k < recordCount (i .sheet)
       → blanked (stepOf (recordAt (i .sheet) k)) (answerAt i k)
       ≡ getD (previewed (clockOf (i .board)) (stepsOf (i .sheet))) k noAnswer
   unfolding ran

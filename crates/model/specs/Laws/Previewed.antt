@@ -19,8 +19,8 @@ use Rattle.model.specs.Outcome.{sizesFit, verdict, refusalNumber, refusa
 use Rattle.model.specs.Outcome.{mediaOf, firstState, ran, outcomeBy, outcome}
 use Rattle.model.specs.Alike.{AlikeSheets, AlikeBoards, Limits}
 use Rattle.model.specs.Preview.{Asked, Previewed, previewRows, previewVerdict, previewAnswers, giving, previewBy, preview}
-use Rattle.model.specs.Preview.{Memories, noMemories, lentWith, zeroed, eachAnswer, withZeros, SomeRun, AsRun}
-use Rattle.model.specs.Laws.Choice.{choose, by-test}
+use Rattle.model.specs.Preview.{Memories, noMemories, lentWith, zeroed, eachAnswer, withZeros, AsRun}
+use Rattle.model.specs.Laws.Choice.{choose}
 use Rattle.model.specs.Laws.Times.{blanked, eachStep, run-blanked, run-total}
 use Rattle.model.specs.Laws.Limits.{preview-limits, records-length}
 use Rattle.model.specs.Laws.Rows.{Exactly, Decides, NoneHolds, Rising, numberAt, left-out}
