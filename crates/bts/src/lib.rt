@@ -275,7 +275,7 @@ fn preview_examined(sheet: &[u8], board: &[u8], answers: &mut [u8]) -> Report
     }
 }
 
-// Sheet and board are as they were at its end, and the contract says so.
+// At its end sheet and board are as they were, and the contract says so.
 #[no_mangle]
 pub extern "C" fn bts_preview(sheet: &[u8], board: &[u8], answers: &mut [u8]) -> Report
     ensures { λ r. ⌜ reportedPreview r (now (sheet .exit)) (now (board .exit)) (now (answers .exit))

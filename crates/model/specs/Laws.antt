@@ -2,6 +2,7 @@
 pub mod Choice
 pub mod Window
 pub mod Sizes
+pub mod Kinds
 pub mod Previous
 pub mod Rules
 pub mod Figures

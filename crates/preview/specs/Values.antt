@@ -1,7 +1,6 @@
 -- The values of a preview: those that the clock tells stay, the others are 0. Over no memories nothing lands, so that this is all
 -- that is left to do to the answers of such a run.
 use mathlib.Core.Path.{_≡_, refl, sym, ap, ap₂, _∙_}
-use mathlib.Core.Bool.{true}
 use mathlib.Core.List.{List, [], _∷_, _++_}
 use Prim.Native.Nat.{ℕ, suc, _+_, _-_, _*_, _≤_, _<_}
 use native.Mathlib.Omega.{arith}
@@ -10,7 +9,6 @@ use lib.ListN.{length, take, drop, take-append-drop, length-append, length-drop}
 use lib.Seq.{length-take-le, drop-drop}
 use borrow.Rule.Slice.PartMut.{putMid, same-len-mid}
 use lib.Dec.{eqb}
-use borrow.Author.Tests.{eqb-true}
 use Rattle.model.specs.Base.{if_then_else_, bytes, number, AllBytes}
 use Rattle.model.specs.Memory.{noLengths}
 use Rattle.model.specs.Store.{Put, puts, modeOf}
@@ -19,7 +17,8 @@ use Rattle.model.specs.Sheet.{maxRecords, recordStart, recordAt, recordCount, r
 use Rattle.model.specs.BoardBytes.{answerLength, answerBytes, answersBytes}
 use Rattle.model.specs.Outcome.{mediaOf, firstState, ran}
 use Rattle.model.specs.Preview.{Asked, previewAnswers, noMemories, lentWith, eachAnswer}
-use Rattle.model.specs.Laws.Choice.{All, choose, by-test, either, if-true, if-false}
+use Rattle.model.specs.Laws.Choice.{All, by-test, either, if-true, if-false}
+use Rattle.model.specs.Laws.Kinds.{by-kind}
 use Rattle.model.specs.Laws.Codec.{bytes-number, put-before, mid-before}
 use Rattle.model.specs.Laws.Landed.{written, write-hits}
 use Rattle.model.specs.Laws.Times.{withHits, withValue, blanked, eachStep, run-blanked}
@@ -80,24 +79,10 @@ valued (Pc a) y = withValue 0 y
 valued (Latch v) y = withValue 0 y
 
 valued-answer : (r : SheetRecord) (y : Answer) → clockValued (r .kind) (answerBytes y) ≡ answerBytes (valued (stepOf r) y)
-unfolding valueBytes stepOf
+unfolding valueBytes
 valued-answer r y =
-    choose P (eqb (r .kind) 1) (λ e. of-kind 1 e refl)
-    λ e₁. choose P (eqb (r .kind) 2) (λ e. of-kind 2 e refl)
-    λ e₂. choose P (eqb (r .kind) 3) (λ e. of-kind 3 e refl)
-    λ e₃. choose P (eqb (r .kind) 4) (λ e. of-kind 4 e refl)
-    λ e₄. choose P (eqb (r .kind) 5) (λ e. of-kind 5 e refl)
-    λ e₅. choose P (eqb (r .kind) 6) (λ e. of-kind 6 e refl)
-    λ e₆. choose P (eqb (r .kind) 7) (λ e. of-kind 7 e refl)
-    λ e₇. choose P (eqb (r .kind) 8) (λ e. of-kind 8 e refl)
-    λ e₈. rw e₇
-  where
-    P : Step → Type 0
-    P x = clockValued (r .kind) (answerBytes y) ≡ answerBytes (valued x y)
-
-    of-kind : (n : ℕ) {b : List ℕ} → eqb (r .kind) n ≡ true → clockValued n (answerBytes y) ≡ b
-        → clockValued (r .kind) (answerBytes y) ≡ b
-    of-kind n e h = ap (λ (k : ℕ). clockValued k (answerBytes y)) (eqb-true (r .kind) n e) ∙ h
+    by-kind (λ (k : ℕ) (x : Step). clockValued k (answerBytes y) ≡ answerBytes (valued x y)) r
+    refl refl refl refl refl refl refl refl (λ o. rw (o .instruction))
 
 -- no place of a store of no bytes
 none-within : (ps : List Put) → All (λ (p : Put). p .place < 0) ps → ps ≡ []

@@ -11,7 +11,6 @@ use native.Mathlib.Nat.{add-zero, add-assoc, mod-eq-of-lt}
 use lib.ListN.{length, getD, take, drop, length-map}
 use lib.Seq.{getD-append-add, getD-take, getD-drop, getD-set-other, drop-drop}
 use lib.Dec.{eqb}
-use borrow.Author.Tests.{eqb-true}
 use Rattle.model.specs.Base.{sum, byteAt, bytes, number}
 use Rattle.model.specs.Waitcnt.{prefetchEnable}
 use Rattle.model.specs.Step.{answer, cyclesIn, cyclesOf}
@@ -20,7 +19,8 @@ use Rattle.model.specs.BoardBytes.{answerLength, clockOf, answerBytes, a
 use Rattle.model.specs.Outcome.{Lent, LentBytes, Outcome, mediaOf, firstState, ran, outcomeBy, outcome}
 use Rattle.model.specs.Alike.{AlikeRecords, AlikeSheets, AlikeBoards, stateAt, answerAt, answerStart}
 use Rattle.model.specs.Alike.{ReadBack, cyclesFrom, Accounts, Compared, Demand3}
-use Rattle.model.specs.Laws.Choice.{All, choose, choose₂, tests, eqb-ne}
+use Rattle.model.specs.Laws.Choice.{All, choose₂, tests, eqb-ne}
+use Rattle.model.specs.Laws.Kinds.{by-kind}
 use Rattle.model.specs.Preview.{previewed}
 use Rattle.model.specs.Laws.Times.{withHits, withValue, blanked, run-blanked, each-at, run-cycles, run-total}
 use Rattle.model.specs.Laws.Times.{Shown, shown, SameTime, SameTimes, previews-alike}
@@ -181,20 +181,12 @@ hits-apart x at h = sym (getD-set-other (answerBytes x) 8 at 0 0 h)
 
 clock-tells : (r : SheetRecord) (at : ℕ) → Compared r at → (x : Answer)
     → byteAt (answerBytes x) at ≡ byteAt (answerBytes (blanked (stepOf r) x)) at
-unfolding stepOf
 clock-tells r at c x =
-    choose P (eqb (r .kind) 1) (λ e. value-apart x at (c .from))
-    λ e₁. choose P (eqb (r .kind) 2) (λ e. hits-apart x at (λ z. c .but-landed z (eqb-true (r .kind) 2 e)))
-    λ e₂. choose P (eqb (r .kind) 3) (λ e. refl)
-    λ e₃. choose P (eqb (r .kind) 4) (λ e. refl)
-    λ e₄. choose P (eqb (r .kind) 5) (λ e. value-apart x at (c .from))
-    λ e₅. choose P (eqb (r .kind) 6) (λ e. refl)
-    λ e₆. choose P (eqb (r .kind) 7) (λ e. refl)
-    λ e₇. choose P (eqb (r .kind) 8) (λ e. refl)
-    λ e₈. refl
+    by-kind P r (λ h. value-apart x at (c .from)) (λ h. hits-apart x at (λ z. h z refl)) (λ h. refl) (λ h. refl)
+    (λ h. value-apart x at (c .from)) (λ h. refl) (λ h. refl) (λ h. refl) (λ o h. refl) (c .but-landed)
   where
-    P : Step → Type 0
-    P y = byteAt (answerBytes x) at ≡ byteAt (answerBytes (blanked y x)) at
+    P : ℕ → Step → Type 0
+    P k y = (at ≡ 8 → k ≢ 2) → byteAt (answerBytes x) at ≡ byteAt (answerBytes (blanked y x)) at
 
 -- the cycles stand in the answers as they are
 cycles-past : (x : Answer) (b : List ℕ) (k n : ℕ) → cyclesFrom (answerBytes x ++ b) (suc k) n ≡ cyclesFrom b k n

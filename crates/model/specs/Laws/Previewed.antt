@@ -9,7 +9,7 @@ use Prim.Native.Nat.{ℕ, _*_, _≤_, _<_}
 use native.Mathlib.Omega.{arith}
 use lib.ListN.{length, drop}
 use lib.Dec.{eqb, lit<}
-use borrow.Author.Tests.{eqb-true, ne-eqb}
+use borrow.Author.Tests.{ne-eqb}
 use Rattle.model.specs.Base.{if_then_else_, sum}
 use Rattle.model.specs.Step.{cyclesIn, total}
 use Rattle.model.specs.Sheet.{recordCount, recordsFrom, recordsOf, stepOf, stepsOf}
@@ -20,7 +20,7 @@ use Rattle.model.specs.Outcome.{mediaOf, firstState, ran, outcomeBy, out
 use Rattle.model.specs.Alike.{AlikeSheets, AlikeBoards, Limits}
 use Rattle.model.specs.Preview.{Asked, Previewed, previewRows, previewVerdict, previewAnswers, giving, previewBy, preview}
 use Rattle.model.specs.Preview.{Memories, noMemories, lentWith, zeroed, eachAnswer, withZeros, AsRun}
-use Rattle.model.specs.Laws.Choice.{choose}
+use Rattle.model.specs.Laws.Kinds.{by-kind}
 use Rattle.model.specs.Laws.Times.{blanked, eachStep, run-blanked, run-total}
 use Rattle.model.specs.Laws.Limits.{preview-limits, records-length}
 use Rattle.model.specs.Laws.Rows.{Exactly, Decides, NoneHolds, Rising, numberAt, left-out}
@@ -52,23 +52,10 @@ each-answer f g h (r ∷ rs) (y ∷ ys) rest l =
 
 -- the zeros are the blanks
 zeroed-answer : (r : SheetRecord) (y : Answer) → zeroed (r .kind) (answerBytes y) ≡ answerBytes (blanked (stepOf r) y)
-unfolding zeroed stepOf
+unfolding zeroed
 zeroed-answer r y =
-    choose P (eqb (r .kind) 1) (λ e. of-kind 1 e refl)
-    λ e₁. choose P (eqb (r .kind) 2) (λ e. of-kind 2 e refl)
-    λ e₂. choose P (eqb (r .kind) 3) (λ e. of-kind 3 e refl)
-    λ e₃. choose P (eqb (r .kind) 4) (λ e. of-kind 4 e refl)
-    λ e₄. choose P (eqb (r .kind) 5) (λ e. of-kind 5 e refl)
-    λ e₅. choose P (eqb (r .kind) 6) (λ e. of-kind 6 e refl)
-    λ e₆. choose P (eqb (r .kind) 7) (λ e. of-kind 7 e refl)
-    λ e₇. choose P (eqb (r .kind) 8) (λ e. of-kind 8 e refl)
-    λ e₈. rw (e₁, e₂, e₅)
-  where
-    P : Step → Type 0
-    P x = zeroed (r .kind) (answerBytes y) ≡ answerBytes (blanked x y)
-
-    of-kind : (n : ℕ) {b : List ℕ} → eqb (r .kind) n ≡ true → zeroed n (answerBytes y) ≡ b → zeroed (r .kind) (answerBytes y) ≡ b
-    of-kind n e h = ap (λ (k : ℕ). zeroed k (answerBytes y)) (eqb-true (r .kind) n e) ∙ h
+    by-kind (λ (k : ℕ) (x : Step). zeroed k (answerBytes y) ≡ answerBytes (blanked x y)) r refl refl refl refl refl refl refl refl
+    (λ o. rw (o .read, o .write, o .fetch))
 
 -- ---- a preview is the run, but for the zeros
 

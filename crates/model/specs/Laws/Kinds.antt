@@ -1,0 +1,46 @@
+-- A claim about the step of a record, kind by kind: what is shown of each kind's step holds of every record's.
+use mathlib.Core.Path.{_≡_}
+use mathlib.Core.Bool.{true, false}
+use Prim.Native.Nat.{ℕ, _%_}
+use lib.Dec.{eqb}
+use borrow.Author.Tests.{eqb-true}
+use Rattle.model.specs.Wait.{accessSize}
+use Rattle.model.specs.Sheet.{isaState, stepOf}
+use Rattle.model.specs.Laws.Choice.{choose}
+use Rattle.model.specs.declared.SheetRecord.{SheetRecord}
+use Rattle.model.specs.declared.Step.{Step}
+use Rattle.model.specs.declared.Step.the-variants.{Read, Write, Waitcnt, Idle, Fetch, Restart, Instruction, Pc, Latch}
+
+-- none of the kinds 1 to 8, so that the step is LATCH; of these, what is asked for
+pub record Other (kind : ℕ) : Type 0 where
+  pub read : eqb kind 1 ≡ false
+  pub write : eqb kind 2 ≡ false
+  pub idle : eqb kind 4 ≡ false
+  pub fetch : eqb kind 5 ≡ false
+  pub instruction : eqb kind 7 ≡ false
+
+pub by-kind : (P : ℕ → Step → Type 0) (r : SheetRecord)
+    → P 1 (Read (accessSize (r .size)) (r .address))
+    → P 2 (Write (accessSize (r .size)) (r .address) (r .value))
+    → P 3 (Waitcnt (r .value % 0x1_0000))
+    → P 4 (Idle (r .value))
+    → P 5 (Fetch (r .address))
+    → P 6 (Restart (r .address))
+    → P 7 (Instruction (isaState (r .size)) (r .address) (r .value) (eqb (r .flag) 1))
+    → P 8 (Pc (r .address))
+    → (Other (r .kind) → P (r .kind) (Latch (r .value)))
+    → P (r .kind) (stepOf r)
+unfolding stepOf
+by-kind P r read write waitcnt idle fetch restart instruction pc latch =
+    choose (P (r .kind)) (eqb (r .kind) 1) (λ e. at 1 e read)
+    λ e₁. choose (P (r .kind)) (eqb (r .kind) 2) (λ e. at 2 e write)
+    λ e₂. choose (P (r .kind)) (eqb (r .kind) 3) (λ e. at 3 e waitcnt)
+    λ e₃. choose (P (r .kind)) (eqb (r .kind) 4) (λ e. at 4 e idle)
+    λ e₄. choose (P (r .kind)) (eqb (r .kind) 5) (λ e. at 5 e fetch)
+    λ e₅. choose (P (r .kind)) (eqb (r .kind) 6) (λ e. at 6 e restart)
+    λ e₆. choose (P (r .kind)) (eqb (r .kind) 7) (λ e. at 7 e instruction)
+    λ e₇. choose (P (r .kind)) (eqb (r .kind) 8) (λ e. at 8 e pc)
+    λ e₈. latch (record { read = e₁; write = e₂; idle = e₄; fetch = e₅; instruction = e₇ })
+  where
+    at : (n : ℕ) {x : Step} → eqb (r .kind) n ≡ true → P n x → P (r .kind) x
+    at n e p = let k : r .kind ≡ n = eqb-true (r .kind) n e in rw k p
