@@ -24,12 +24,11 @@ enum { DONE = 0, REFUSED = 1, FAILED = 2 };
 /* The files that may be read. */
 enum { IN_STEPS, IN_BOARD, IN_BIOS, IN_ROM, IN_SRAM, IN_STORE, INPUTS };
 
-/* All that a run takes, and its answers. */
+/* All that a run takes, and what it gives. */
 struct job {
     struct input inputs[INPUTS]; /* a board and a store that no file gives are made in their places */
     struct bytes sheet;          /* from a listing; it may have more records than a sheet holds */
-    uint8_t *answers;
-    uint8_t *shares; /* NULL where nothing is billed */
+    struct room room;            /* the answers, the grounds and the shares */
     struct machine machine;
 };
 
@@ -113,28 +112,27 @@ static struct bytes sheet_of(const struct options *options, const struct job *jo
 /* The steps of a listing, which may be more than a sheet holds. */
 static bts_report run_listing(const struct options *options, struct job *job) {
     const uint8_t *records = job->sheet.at + BTS_HEADER_SIZE;
-    return (options->preview ? preview_records : run_records)(records, records_in(job->sheet.len), &job->machine, job->answers);
+    return (options->preview ? preview_records : run_records)(records, records_in(job->sheet.len), &job->machine, &job->room);
 }
 
 /* A sheet as it was read. */
 static bts_report run_read_sheet(const struct options *options, struct job *job) {
     struct bytes sheet = sheet_of(options, job);
-    return options->preview ? preview_sheet(sheet.at, sheet.len, &job->machine, job->answers)
-                            : run_sheet(sheet.at, sheet.len, &job->machine, job->answers);
+    return (options->preview ? preview_sheet : run_sheet)(sheet.at, sheet.len, &job->machine, &job->room);
 }
 
 /* The run, or its preview. Where it isn't billed the charge is 0. */
 static bts_bill run(const struct options *options, struct job *job) {
     struct bytes sheet = sheet_of(options, job);
     if (options->rate.given) {
-        return (options->preview ? preview_bill : bill_sheet)(sheet.at, sheet.len, &job->machine, job->answers, job->shares,
+        return (options->preview ? preview_bill : bill_sheet)(sheet.at, sheet.len, &job->machine, &job->room,
                                                               options->rate.cents);
     }
     bts_report report = (options->sheet != NULL ? run_read_sheet : run_listing)(options, job);
     return (bts_bill){report.number, report.index, report.total, 0};
 }
 
-/* Room for what the run writes for each record. Of no records it is no NULL either: NULL shares are those of a run not billed. */
+/* Of no records it is no NULL either: NULL shares are those of a run not billed. */
 static bool make_room(size_t count, size_t size, uint8_t **at) {
     *at = malloc(count > 0 ? count * size : 1);
     if (*at == NULL) {
@@ -143,10 +141,11 @@ static bool make_room(size_t count, size_t size, uint8_t **at) {
     return *at != NULL;
 }
 
-static bool make_answers(const struct options *options, struct job *job) {
+/* Room for what the run writes for each record. */
+static bool make_rooms(const struct options *options, struct job *job) {
     size_t count = records_in(sheet_of(options, job).len);
-    return make_room(count, BTS_ANSWER_SIZE, &job->answers) &&
-           (!options->rate.given || make_room(count, BTS_SHARE_SIZE, &job->shares));
+    return make_room(count, BTS_ANSWER_SIZE, &job->room.answers) && make_room(count, BTS_GROUNDS_SIZE, &job->room.grounds) &&
+           (!options->rate.given || make_room(count, BTS_SHARE_SIZE, &job->room.shares));
 }
 
 static void tell_too_long(const char *file, const char *memory, size_t len, size_t size) {
@@ -224,7 +223,7 @@ static void tell_rest(const struct options *options, const struct job *job, cons
 
 static int price(const struct options *options, struct job *job) {
     struct trace trace;
-    if (!read_inputs(options, job) || !make_machine(options, job) || !make_answers(options, job)) {
+    if (!read_inputs(options, job) || !make_machine(options, job) || !make_rooms(options, job)) {
         return FAILED;
     }
     trace_begin(&trace, &job->machine);
@@ -240,8 +239,9 @@ static int price(const struct options *options, struct job *job) {
     }
     struct account account = {
         .records = records,
-        .answers = job->answers,
-        .shares = job->shares,
+        .answers = job->room.answers,
+        .grounds = job->room.grounds,
+        .shares = job->room.shares,
         .count = bill.index,
         .total = bill.total,
         .charge = bill.charge,
@@ -270,7 +270,8 @@ int main(int argc, char **argv) {
         free(job.inputs[i].bytes.at);
     }
     free(job.sheet.at);
-    free(job.answers);
-    free(job.shares);
+    free(job.room.answers);
+    free(job.room.grounds);
+    free(job.room.shares);
     return status;
 }

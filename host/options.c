@@ -6,6 +6,7 @@
 #include <string.h>
 
 #include "bts.h"
+#include "grounds.h"
 #include "kinds.h"
 #include "number.h"
 #include "say.h"
@@ -216,20 +217,32 @@ static void print_steps(void) {
     }
 }
 
+static void print_grounds(void) {
+    fputs("\nThe words of the grounds, and what the beat costs; N and S are the cycles of a nonsequential and of a sequential "
+          "halfword\nof ROM, by WAITCNT. The beats, with the internal cycle of a THUMB or ARM that has one, make the step's "
+          "cycles.\n\n", stdout);
+    for (uint32_t ground = BTS_GROUND_HIT; ground < BTS_GROUNDS; ground++) {
+        printf("  %-9s%s\n", bts_ground_name(ground), ground_says(ground));
+    }
+}
+
 void print_help(void) {
     fputs("btsrun [OPTION].. [LISTING]     prices the steps of a listing (standard input if none is named, or -)\n\n", stdout);
     print_options();
     fputs("\nA value may also stand behind =, as in --rom=FILE.\n", stdout);
     print_sizes();
     print_steps();
-    fputs("\nFor each step a line gives these six, and behind them is the total of the cycles:\n\n"
-          "  index   the step's number, from 0\n"
-          "  cycles  what the step costs\n"
-          "  value   READ: the data; FETCH: the halfword, 0 on a miss; THUMB, ARM: cycles with the cartridge bus free; else 0\n"
-          "  hits    FETCH, THUMB, ARM: halfwords taken from the prefetch; WRITE: bytes that landed in a memory; else 0\n"
-          "  count   halfwords that stand in the prefetch after the step\n"
-          "  force   1: the next opcode fetch is nonsequential\n"
-          "\n"
+    fputs("\nFor each step a line gives these, and behind the lines is the total of the cycles:\n\n"
+          "  index    the step's number, from 0\n"
+          "  cycles   what the step costs\n"
+          "  value    READ: the data; FETCH: the halfword, 0 on a miss; THUMB, ARM: cycles with the cartridge bus free; else 0\n"
+          "  hits     FETCH, THUMB, ARM: halfwords taken from the prefetch; WRITE: bytes that landed in a memory; else 0\n"
+          "  count    halfwords that stand in the prefetch after the step\n"
+          "  force    1: the next opcode fetch is nonsequential\n"
+          "  grounds  READ, WRITE, THUMB, ARM: why the step costs that, a word for each beat; else nothing\n",
+          stdout);
+    print_grounds();
+    fputs("\n"
           "A READ or WRITE in ROM that goes on where the READ or WRITE before it ended is sequential, but for the beginning of a "
           "block\nof 0x20000 bytes; any other is nonsequential in its first halfword. IDLE, PC and LATCH may stand between the "
           "two; THUMB,\nARM, FETCH, RESTART and WAITCNT end such a row.\n"

@@ -13,12 +13,21 @@ struct machine {
     size_t lengths[MEMORIES];
 };
 
+/* Where a run or a preview writes: room for as many of each as there are records. */
+struct room {
+    uint8_t *answers; /* BTS_ANSWER_SIZE bytes each */
+    uint8_t *grounds; /* BTS_GROUNDS_SIZE bytes each */
+    uint8_t *shares;  /* BTS_SHARE_SIZE bytes each; NULL where nothing is billed */
+};
+
 struct trace;
 
-/* A run or a preview that was accepted: a record and an answer for each step, whatever number of pieces it was run in. */
+/* A run or a preview that was accepted: a record, an answer and its grounds for each step, whatever number of pieces it was run
+ * in. */
 struct account {
     const uint8_t *records; /* BTS_RECORD_SIZE bytes each */
     const uint8_t *answers; /* BTS_ANSWER_SIZE bytes each */
+    const uint8_t *grounds; /* BTS_GROUNDS_SIZE bytes each */
     const uint8_t *shares;  /* BTS_SHARE_SIZE bytes each; NULL where the run was not billed */
     size_t count;
     uint64_t total;
@@ -30,27 +39,26 @@ struct account {
 /* How many records a sheet of `len` bytes has, if it is one that is accepted. */
 size_t records_in(size_t len);
 
-/* Runs a sheet as it is; answers has room for as many as records_in gives. */
-bts_report run_sheet(const uint8_t *sheet, size_t len, struct machine *machine, uint8_t *answers);
+/* Runs a sheet as it is; there is room for as many records as records_in gives. */
+bts_report run_sheet(const uint8_t *sheet, size_t len, struct machine *machine, const struct room *room);
 
-/* The same under a tariff; shares has room for as many too. There is no such run in pieces: the charge of each would be rounded
- * up by itself, so that their sum might be too much. */
-bts_bill bill_sheet(const uint8_t *sheet, size_t len, struct machine *machine, uint8_t *answers, uint8_t *shares, uint32_t rate);
+/* The same under a tariff, with the shares. There is no such run in pieces: the charge of each would be rounded up by itself, so
+ * that their sum might be too much. */
+bts_bill bill_sheet(const uint8_t *sheet, size_t len, struct machine *machine, const struct room *room, uint32_t rate);
 
-/* Runs `count` records in pieces; answers has room for all of them. The report is as if a sheet had no limit: the index runs on
- * through the pieces, and the total is that of all. Behind a refusal, board and store are those of the pieces before it. */
-bts_report run_records(const uint8_t *records, size_t count, struct machine *machine, uint8_t *answers);
+/* Runs `count` records in pieces. The report is as if a sheet had no limit: the index runs on through the pieces, and the total
+ * is that of all. Behind a refusal, board and store are those of the pieces before it. */
+bts_report run_records(const uint8_t *records, size_t count, struct machine *machine, const struct room *room);
 
-/* ---- previews: of the machine they take the board alone, whatever memories it has */
+/* ---- previews: of the machine they take the board alone, whatever memories it has, and the board is then another */
 
 /* The preview of a sheet as it is. */
-bts_report preview_sheet(const uint8_t *sheet, size_t len, const struct machine *machine, uint8_t *answers);
+bts_report preview_sheet(const uint8_t *sheet, size_t len, struct machine *machine, const struct room *room);
 
-/* The same with the shares and the charge of a run; the board is then another. */
-bts_bill preview_bill(const uint8_t *sheet, size_t len, struct machine *machine, uint8_t *answers, uint8_t *shares,
-                      uint32_t rate);
+/* The same with the shares and the charge of a run. */
+bts_bill preview_bill(const uint8_t *sheet, size_t len, struct machine *machine, const struct room *room, uint32_t rate);
 
-/* The preview of `count` records in pieces; the report is as for run_records, and the board is then another. */
-bts_report preview_records(const uint8_t *records, size_t count, struct machine *machine, uint8_t *answers);
+/* The preview of `count` records in pieces; the report is as for run_records. */
+bts_report preview_records(const uint8_t *records, size_t count, struct machine *machine, const struct room *room);
 
 #endif

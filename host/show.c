@@ -3,6 +3,7 @@
 
 #include <stdio.h>
 
+#include "grounds.h"
 #include "kinds.h"
 #include "marks.h"
 #include "money.h"
@@ -24,8 +25,10 @@ static void print_total(const struct account *account) {
 void print_lines(const struct account *account) {
     for (size_t k = 0; k < account->count; k++) {
         bts_answer a = bts_answer_at(account->answers, k);
-        printf("%zu %lu %lu %u %u %u\n", k, (unsigned long)a.cycles, (unsigned long)a.value, (unsigned)a.hits,
-               (unsigned)a.count, (unsigned)a.force);
+        char grounds[GROUNDS_TEXT_ROOM];
+        grounds_text(account->grounds, k, grounds);
+        printf("%zu %lu %lu %u %u %u%s%s\n", k, (unsigned long)a.cycles, (unsigned long)a.value, (unsigned)a.hits,
+               (unsigned)a.count, (unsigned)a.force, grounds[0] != '\0' ? " " : "", grounds);
     }
     print_total(account);
 }
@@ -50,19 +53,23 @@ static bool has_hits(const struct account *account, const uint8_t *record) {
 
 /* ---- the table */
 
+/* The longest that two beats have: "address seq". More of them would move what stands behind. */
+enum { GROUNDS_WIDTH = 11 };
+
 /* The marks stand behind the last column, so that a step without any ends where the sum or its share does. */
 static void print_row(const struct account *account, size_t k, bts_answer a, unsigned long long sum) {
     const uint8_t *record = account->records + BTS_RECORD_SIZE * k;
-    char text[STEP_TEXT_ROOM], value[16] = "-", hits[4] = "-";
+    char text[STEP_TEXT_ROOM], grounds[GROUNDS_TEXT_ROOM], value[16] = "-", hits[4] = "-";
     step_text(record, text);
+    grounds_text(account->grounds, k, grounds);
     if (has_value(account, record)) {
         snprintf(value, sizeof value, "0x%08lX", (unsigned long)a.value);
     }
     if (has_hits(account, record)) {
         snprintf(hits, sizeof hits, "%u", (unsigned)a.hits);
     }
-    printf("%5zu  %-29s %10lu  %-10s %4s %5u %5u %14llu", k, text, (unsigned long)a.cycles, value, hits, (unsigned)a.count,
-           (unsigned)a.force, sum);
+    printf("%5zu  %-29s %10lu  %-10s %4s %5u %5u  %-*s %14llu", k, text, (unsigned long)a.cycles, value, hits,
+           (unsigned)a.count, (unsigned)a.force, GROUNDS_WIDTH, grounds, sum);
 }
 
 /* The largest share, of 2^32 - 1 cycles at a cent each, has 11 characters. */
@@ -77,7 +84,8 @@ static void print_share(const struct account *account, size_t k) {
 }
 
 static void print_heading(const struct account *account) {
-    printf("%5s  %-29s %10s  %-10s %4s %5s %5s %14s", "index", "step", "cycles", "value", "hits", "count", "force", "sum");
+    printf("%5s  %-29s %10s  %-10s %4s %5s %5s  %-*s %14s", "index", "step", "cycles", "value", "hits", "count", "force",
+           GROUNDS_WIDTH, "grounds", "sum");
     if (is_billed(account)) {
         printf(" %*s", SHARE_WIDTH, "share");
     }

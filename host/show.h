@@ -4,13 +4,13 @@
 
 #include "runs.h"
 
-/* A line for each record and the total, exactly as `bench` writes them; where the run was billed, then the charge. What a preview
- * leaves out is 0. */
+/* A line for each record, which ends in its grounds, and the total, exactly as `bench` writes them; where the run was billed,
+ * then the charge. What a preview leaves out is 0. */
 void print_lines(const struct account *account);
 
-/* A table that a person reads, with the steps, the running sum, the shares where the run was billed, and the lines of
- * docs/DIFFERENCES.md that touch each step; the total, and the charge; and what these lines say. What a preview leaves out is -,
- * and behind the total is said what that is. */
+/* A table that a person reads, with the steps, the grounds, the running sum, the shares where the run was billed, and the lines
+ * of docs/DIFFERENCES.md that touch each step; the total, and the charge; and what these lines say. What a preview leaves out is
+ * -, and behind the total is said what that is. */
 void print_table(const struct account *account);
 
 /* What the lines of a preview leave out, on standard error. */

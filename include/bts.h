@@ -2,18 +2,19 @@
  *
  * A sheet is a list of steps as bytes. bts_run examines it, does its steps in order on a board (the machine's state outside its
  * memories) and over memories that the caller lends, and writes an answer for each step. bts_run_tariff does the same and bills
- * it: it also writes what each step's share of the charge is. bts_preview prices a sheet before it is run: it takes no memories,
- * leaves the board as it is, and writes the answers without what hangs on the memories. host/ is a program over all three.
+ * it: it also writes what each step's share of the charge is. bts_run_grounds does the same and says why a step costs what it
+ * does: it also writes the ground of each beat's price. bts_preview prices a sheet before it is run: it takes no memories, leaves
+ * the board as it is, and writes the answers without what hangs on the memories. host/ is a program over all four.
  *
  * All numbers are little endian. "ROM window" is an address from 0x08000000 to 0x0DFFFFFF.
  *
  * What the caller sees to, for the time of the call:
  *   - every pointer is valid and not null, even where its length is 0 (bts_bytes and bts_room below take NULL for "no memory");
  *   - each length is the number of bytes at its pointer; no alignment is asked for;
- *   - no two of the buffers overlap, which are six, seven with the shares, and three of a preview (one of length 0 overlaps
- *     nothing);
- *   - nobody else writes any of them, and nobody else reads store, answers, shares and the board of a run. A preview only reads
- *     its board, so others may read it too;
+ *   - no two of the buffers overlap, which are six, seven with the shares or with the grounds, and three of a preview (one of
+ *     length 0 overlaps nothing);
+ *   - nobody else writes any of them, and nobody else reads store, answers, shares, grounds and the board of a run. A preview
+ *     only reads its board, so others may read it too;
  *   - `store` is EWRAM, IWRAM, I/O, palette, VRAM, OAM and SRAM behind one another, in this order and with nothing between them;
  *     the seven lengths at the end are theirs. A length may be 0, odd, or short of the physical size.
  * These are the only rules: with them kept, a call ends and is safe whatever the buffers, the seven lengths and the rate hold,
@@ -21,11 +22,12 @@
  *
  * Who owns what: the caller, everything. The library allocates nothing, keeps no pointer and no state from call to call, reads
  * and writes no file, and never writes sheet, BIOS or ROM, nor the board of a preview. Threads may call it at once on different
- * boards, stores, answers and shares; they may share a sheet, a BIOS and a ROM, and previews a board while nobody runs on it.
+ * boards, stores, answers, shares and grounds; they may share a sheet, a BIOS and a ROM, and previews a board while nobody runs
+ * on it.
  *
  * The library is machine code for Linux on x86-64 (System V, ELF, 64-bit pointers); elsewhere this header is an error. With
- * BTS_NO_LIBRARY defined, none of the three is declared, and the rest (layouts, names, helpers) is plain C99 or C++11 for any
- * machine: enough to make sheets and to read boards, answers and shares there. */
+ * BTS_NO_LIBRARY defined, none of the four is declared, and the rest (layouts, names, helpers) is plain C99 or C++11 for any
+ * machine: enough to make sheets and to read boards, answers, shares and grounds there. */
 #ifndef BTS_H
 #define BTS_H
 
@@ -34,11 +36,12 @@
 #endif
 
 /* The version of this header with its library: MAJOR rises when a caller must change, MINOR when something is added. (The version
- * of a sheet is BTS_VERSION.) With 2.1 bts_preview was added, and a caller of 2.0 need change nothing. With 2.0 a board grew from
- * 72 bytes to 80: build anew what lends one, and see "the board" below for those that were saved before. */
+ * of a sheet is BTS_VERSION.) With 2.2 bts_run_grounds was added, with the numbers, names and readers of its grounds, and with
+ * 2.1 bts_preview: a caller of 2.0 or 2.1 need change nothing. With 2.0 a board grew from 72 bytes to 80: build anew what lends
+ * one, and see "the board" below for those that were saved before. */
 #define BTS_LIBRARY_MAJOR 2
-#define BTS_LIBRARY_MINOR 1
-#define BTS_LIBRARY_VERSION "2.1"
+#define BTS_LIBRARY_MINOR 2
+#define BTS_LIBRARY_VERSION "2.2"
 
 #include <stddef.h>
 #include <stdint.h>
@@ -61,6 +64,9 @@
  * A refusal: total is 0, index is the faulty record (from 0) for BTS_FAULTY_RECORD and else 0, and every byte of board, store
  * and answers is as it was. Where several conditions are met, the lowest number is given; every record is examined before the
  * first is done.
+ *
+ * A run with grounds gives back the same; accepted, it has written the grounds of each record, and no byte behind them; refused,
+ * no byte of them at all.
  *
  * A preview gives back the same, but the answers are all that it writes: accepted or refused, it leaves the board as it was. */
 typedef struct {
@@ -104,7 +110,7 @@ static inline const char *const *bts_refusal_row(uint32_t number) {
         {"BTS_BAD_SHAPE", "the sheet's byte 5 is not 0, it has over 4096 records, or its length is not 8 + 12 a record"},
         {"BTS_BAD_LENGTHS", "a memory is longer than its physical size, or the seven lengths don't add up to the store's"},
         {"BTS_UNSOUND_BOARD", "the board is not 80 bytes or not sound"},
-        {"BTS_SHORT_ANSWERS", "the answers are shorter than 12 bytes a record, or the shares of a tariff shorter than 8"},
+        {"BTS_SHORT_ANSWERS", "the answers are shorter than 12 bytes a record, the shares than 8, or the grounds than 32"},
         {"BTS_FAULTY_RECORD", "the record breaks the layout of a record or the table of kinds"},
         {"BTS_BAD_RATE", "the rate is 0 or over 1000000 cents per million cycles"},
         {"unknown", "this number is none that the library gives"},
@@ -131,7 +137,8 @@ enum {
     BTS_MOST_SHEET = BTS_HEADER_SIZE + BTS_RECORD_SIZE * BTS_MOST_RECORDS, /* the longest sheet */
     BTS_BOARD_SIZE = 80,
     BTS_ANSWER_SIZE = 12,
-    BTS_SHARE_SIZE = 8
+    BTS_SHARE_SIZE = 8,
+    BTS_GROUNDS_SIZE = 32
 };
 
 /* The physical sizes: a memory may be shorter, not longer. */
@@ -256,6 +263,64 @@ typedef struct {
 
 enum { BTS_MOST_RATE = 1000000 }; /* cents per million cycles */
 
+/* ---- the grounds, which bts_run_grounds gives besides: why a step costs what it does
+ *
+ * Grounds: 32 bytes a step, one for each beat in the order of the beats, and 0 behind the last beat. Today a step has at most two
+ * beats; a later version may fill all 32, so look at each of them.
+ *
+ * READ, WRITE and INSTRUCTION have grounds. All other kinds have none, FETCH too, though it takes from the prefetch. An opcode
+ * in a ROM window has a beat for each of its halfwords, Thumb one and ARM two; any other opcode is one beat as a whole. A READ or
+ * WRITE of a word has two beats in ROM, EWRAM, palette and VRAM; any other access is one beat.
+ *
+ * What the beats cost adds up to the step's cycles, together with the internal cycle of an INSTRUCTION that has one. N and S are
+ * the cycles of a nonsequential and of a sequential halfword of ROM, 1 + the waits that WAITCNT sets for the window of the step's
+ * address. The prefetch, the force flag and the previous data access are those of the board before the step.
+ *
+ *   ground   cycles  where it is told
+ *   hit      1       a halfword of an opcode in ROM, if the prefetch is on and that halfword is the first that stands in it
+ *   seq      S       a halfword of ROM of which none of hit, flag, block and address is told: one of an opcode, the first of data
+ *                    that go on where the previous access ended, or the second of a word
+ *   flag     N       the first halfword of an opcode in ROM, if the force flag is set
+ *   block    N       a halfword of ROM at a multiple of 0x20000, where a block begins
+ *   address  N       the first halfword of data in ROM that don't go on where the previous access ended, or have none before them
+ *   ewram    3       a beat of data in EWRAM, or an opcode there as a whole; that of an ARM opcode costs 6
+ *   sram     1 + W   data in SRAM, of any size, at the W waits that WAITCNT sets for it
+ *   video    1       a beat of data in palette or VRAM
+ *   fast     1       any other data, and any other opcode outside ROM: in palette, VRAM and SRAM too
+ *
+ * A hit comes before the block, and the block before the flag and the address. A ground goes by its condition and not by the
+ * price, so it is told where N and S are the same too. The multiple of 0x20000 goes by an opcode's address as it is given, and by
+ * that of data lowered to a multiple of their size. The second halfword of an ARM opcode has the window of the first, so behind
+ * the last window it still is one of ROM: of an opcode at 0x0DFFFFFE it is block, and of one at 0x0DFFFFFF seq.
+ *
+ * A hit is what stood first in the prefetch before the step, and isn't the hits of the answer: an ARM opcode whose halfwords both
+ * stand there has the grounds hit and seq, and hits 2; one whose second halfword stands first has seq and hit, and hits 0.
+ *
+ * Two accepted runs that are alike (see the shares) have the same grounds, whatever the memories hold and however long they are.
+ * So bts_run_grounds over no memories (all lengths 0), on a copy of the board, gives the grounds of a preview, and those of a run
+ * under a tariff. */
+
+enum {
+    BTS_GROUND_NONE = 0, /* no beat */
+    BTS_GROUND_HIT = 1,
+    BTS_GROUND_SEQ = 2,
+    BTS_GROUND_FLAG = 3,
+    BTS_GROUND_BLOCK = 4,
+    BTS_GROUND_ADDRESS = 5,
+    BTS_GROUND_EWRAM = 6,
+    BTS_GROUND_SRAM = 7,
+    BTS_GROUND_VIDEO = 8,
+    BTS_GROUND_FAST = 9,
+    BTS_GROUNDS = 10     /* how many numbers there are, BTS_GROUND_NONE among them */
+};
+
+/* For any number: "hit" for 1, and so on, as the printed lines have it; "none" for 0, and "unknown" from BTS_GROUNDS on. */
+static inline const char *bts_ground_name(uint32_t number) {
+    static const char *const names[BTS_GROUNDS + 1] = {"none",  "hit",  "seq",   "flag", "block",  "address",
+                                                       "ewram", "sram", "video", "fast", "unknown"};
+    return names[number < BTS_GROUNDS ? number : BTS_CAST(uint32_t, BTS_GROUNDS)];
+}
+
 /* ---- the preview
  *
  * bts_preview takes a sheet and a board, and no memories. Its report and its answers are those of bts_run on a copy of the board,
@@ -271,7 +336,7 @@ enum { BTS_MOST_RATE = 1000000 }; /* cents per million cycles */
  *
  * It leaves no board that the preview of a further sheet could go on from. That board is had by bts_run of the first sheet on a
  * copy, over no memories (all lengths 0): no cycle depends on them. bts_run_tariff over no memories, on a copy of the board too,
- * gives the shares and the charge of a run over any. */
+ * gives the shares and the charge of a run over any, and bts_run_grounds its grounds. */
 
 /* ---- the runs */
 
@@ -296,6 +361,17 @@ bts_bill bts_run_tariff(const uint8_t *sheet, size_t sheet_len,
                         uint8_t *shares, size_t shares_len,
                         size_t ewram, size_t iwram, size_t io, size_t palette, size_t vram, size_t oam, size_t sram,
                         uint32_t rate);
+
+/* The same run, with the grounds of its prices. */
+BTS_FUNCTION
+bts_report bts_run_grounds(const uint8_t *sheet, size_t sheet_len,
+                           uint8_t *board, size_t board_len,
+                           uint8_t *store, size_t store_len,
+                           const uint8_t *bios, size_t bios_len,
+                           const uint8_t *rom, size_t rom_len,
+                           uint8_t *answers, size_t answers_len,
+                           uint8_t *grounds, size_t grounds_len,
+                           size_t ewram, size_t iwram, size_t io, size_t palette, size_t vram, size_t oam, size_t sram);
 
 /* The same priced, and not run: sheet and board are only read, and answers is written. */
 BTS_FUNCTION
@@ -370,6 +446,21 @@ static inline bts_answer bts_answer_at(const uint8_t *answers, size_t k) {
 /* Share k, from 0, of an accepted run under a tariff: cents. */
 static inline uint64_t bts_share_at(const uint8_t *shares, size_t k) {
     return bts_get64(shares + BTS_SHARE_SIZE * k);
+}
+
+/* The ground of beat `beat`, from 0 and below BTS_GROUNDS_SIZE, of step k, from 0, of an accepted run with grounds: one of the
+ * numbers above, and BTS_GROUND_NONE behind the last beat. */
+static inline uint8_t bts_ground_at(const uint8_t *grounds, size_t k, size_t beat) {
+    return grounds[BTS_GROUNDS_SIZE * k + beat];
+}
+
+/* How many beats step k has: 0 to BTS_GROUNDS_SIZE. */
+static inline size_t bts_ground_beats(const uint8_t *grounds, size_t k) {
+    size_t beats = 0;
+    while (beats < BTS_GROUNDS_SIZE && bts_ground_at(grounds, k, beats) != BTS_GROUND_NONE) {
+        beats++;
+    }
+    return beats;
 }
 
 /* The fields of a board of BTS_BOARD_SIZE bytes; what they mean stands at their places above. */

@@ -57,7 +57,7 @@ bad_stores() {
 # store are the same.
 cut_checks() {
     rm -f "$files"/*
-    for name in steps loop rows; do
+    for name in steps loop rows grounds; do
         lands $(shorts_in $here/$name.lst) "$name in one" --board-out "$files/board-whole" --store-out "$files/store-whole" \
             $here/$name.lst
         grep -v total "$work/out" | cut -d' ' -f2- >"$work/whole"
@@ -98,7 +98,9 @@ long_listing() {
 
 # TABLE: its column sum is what its cycles add up to
 sums_run_on() {
-    sed 1d "$1" | awk '/^total/ { exit } { split(substr($0, 37), f); sum += f[1]; if (f[6] != sum) bad = 1 } END { exit bad }'
+    sed 1d "$1" | awk '/^total/ { exit }
+        { sum += substr($0, 38, 10); if (substr($0, 91, 14) + 0 != sum) bad = 1 }
+        END { exit bad }'
 }
 
 piece_checks() {

@@ -19,9 +19,9 @@ size_checks() {
     check "those of --bench too" is "$(awk -v n=3 "$sizes_told" "$work/out")" "$bench "
     printf 'WRITE 4 0x03007F00 0x12345678\nREAD 4 0x03007F00\n' >"$work/stack"
     good "a stack" "$work/stack"
-    check "it is there" is "$(sed -n 2p "$work/out")" "1 1 305419896 0 0 0"
+    check "it is there" is "$(sed -n 2p "$work/out")" "1 1 305419896 0 0 0 fast"
     lands 1 1 "a stack over document 01's memories" --bench "$work/stack"
-    check "it is not there, at the same price" is "$(sed -n 2p "$work/out")" "1 1 0 0 0 0"
+    check "it is not there, at the same price" is "$(sed -n 2p "$work/out")" "1 1 0 0 0 0 fast"
 }
 
 help_checks() {
@@ -38,7 +38,7 @@ help_checks() {
 }
 
 column_checks() {
-    for column in index cycles value hits count force; do
+    for column in index cycles value hits count force grounds; do
         check "the column $column" grep -q "^  $column   *[a-zA-Z0-9]" "$work/help"
         check "the column $column in host/README.md" grep -q "^| \`$column\` | " host/README.md
     done

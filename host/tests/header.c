@@ -1,6 +1,7 @@
 /* include/bts.h by itself, as C and as C++: the README's small sheet made with the header's helpers, over no BIOS and no ROM; the
- * same billed, and priced before it is run; the names of the refusals; the readers of a board; what lands of stores; a row of
- * accesses over two runs; the length of a board. The exit status is the number of the first thing that is wrong. */
+ * same billed, with its grounds, and priced before it is run; the names of the refusals and of the grounds; the readers of a
+ * board and of grounds; what lands of stores; a row of accesses over two runs; the length of a board. The exit status is the
+ * number of the first thing that is wrong. */
 #include "bts.h"
 
 #include <string.h>
@@ -97,6 +98,68 @@ static int previewed_run(void) {
     }
     int kept = answers[2 * BTS_ANSWER_SIZE] == 0xEE && bts_board_waitcnt(board) == 0;
     return kept && answer.value == 0 && answer.cycles == 3 ? 0 : 27;
+}
+
+static bts_report with_grounds(uint8_t *grounds, size_t grounds_len) {
+    uint8_t sheet[sizeof by_hand], board[BTS_BOARD_SIZE] = {0}, store[256] = {0}, answers[2 * BTS_ANSWER_SIZE];
+    make_sheet(sheet);
+    return bts_run_grounds(sheet, sizeof sheet, board, sizeof board, store, sizeof store, bts_bytes(NULL), 0, bts_bytes(NULL), 0,
+                           answers, sizeof answers, grounds, grounds_len, 256, 0, 0, 0, 0, 0, 0);
+}
+
+/* The second step is a beat in EWRAM, the first has none; then a byte too little, and no room at all. */
+static int grounded_run(void) {
+    uint8_t grounds[2 * BTS_GROUNDS_SIZE + 1];
+    memset(grounds, 0xEE, sizeof grounds);
+    bts_report none = with_grounds(grounds, 2 * BTS_GROUNDS_SIZE - 1), no_room = with_grounds(bts_room(NULL), 0);
+    if (none.number != BTS_SHORT_ANSWERS || none.index != 0 || none.total != 0 || grounds[0] != 0xEE) {
+        return 28;
+    }
+    if (no_room.number != BTS_SHORT_ANSWERS || no_room.index != 0 || no_room.total != 0) {
+        return 29;
+    }
+    bts_report some = with_grounds(grounds, sizeof grounds);
+    if (some.number != BTS_OK || some.index != 2 || some.total != 3 || grounds[2 * BTS_GROUNDS_SIZE] != 0xEE) {
+        return 30;
+    }
+    if (bts_ground_beats(grounds, 0) != 0 || bts_ground_beats(grounds, 1) != 1) {
+        return 31;
+    }
+    return bts_ground_at(grounds, 1, 0) == BTS_GROUND_EWRAM && bts_ground_at(grounds, 1, 1) == BTS_GROUND_NONE ? 0 : 32;
+}
+
+/* The grounds by document 02's words, in the order of their numbers; and what are no grounds. */
+static int names_of_grounds(void) {
+    static const char *const words[] = {"hit", "seq", "flag", "block", "address", "ewram", "sram", "video", "fast"};
+    static const int numbers[] = {BTS_GROUND_HIT,   BTS_GROUND_SEQ,  BTS_GROUND_FLAG,  BTS_GROUND_BLOCK, BTS_GROUND_ADDRESS,
+                                  BTS_GROUND_EWRAM, BTS_GROUND_SRAM, BTS_GROUND_VIDEO, BTS_GROUND_FAST};
+    for (uint32_t i = 0; i < 9; i++) {
+        if (numbers[i] != BTS_CAST(int, i + 1) || strcmp(bts_ground_name(i + 1), words[i]) != 0) {
+            return 33;
+        }
+    }
+    return BTS_GROUNDS == 10 && strcmp(bts_ground_name(BTS_GROUND_NONE), "none") == 0 &&
+                   strcmp(bts_ground_name(10), "unknown") == 0 && bts_ground_name(0xFFFFFFFF) == bts_ground_name(10)
+               ? 0
+               : 34;
+}
+
+/* Steps of no beat, of one, of 31 and of 32, which no step has today. */
+static int beats_of_grounds(void) {
+    static const size_t beats[] = {0, 1, 31, 32};
+    uint8_t grounds[4 * BTS_GROUNDS_SIZE] = {0};
+    for (size_t k = 0; k < 4; k++) {
+        memset(grounds + BTS_GROUNDS_SIZE * k, BTS_GROUND_SEQ, beats[k]);
+    }
+    for (size_t k = 0; k < 4; k++) {
+        if (bts_ground_beats(grounds, k) != beats[k]) {
+            return 35;
+        }
+    }
+    return bts_ground_at(grounds, 2, 30) == BTS_GROUND_SEQ && bts_ground_at(grounds, 2, 31) == BTS_GROUND_NONE &&
+                   bts_ground_at(grounds, 3, 31) == BTS_GROUND_SEQ
+               ? 0
+               : 36;
 }
 
 /* As the library lays it out. */
@@ -202,8 +265,9 @@ static int readers(void) {
 }
 
 int main(void) {
-    int results[] = {refused_run(), accepted_run(),   names(),           readers(),       stores(),
-                     billed_run(),  layout_of_bill(), row_of_accesses(), board_lengths(), previewed_run()};
+    int results[] = {refused_run(),    accepted_run(),    names(),         readers(),       stores(),       billed_run(),
+                     layout_of_bill(), row_of_accesses(), board_lengths(), previewed_run(), grounded_run(), names_of_grounds(),
+                     beats_of_grounds()};
     int first = 0;
     for (size_t i = 0; i < sizeof results / sizeof results[0]; i++) {
         first = first != 0 ? first : results[i];

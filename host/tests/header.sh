@@ -42,7 +42,7 @@ functions_declared() { sed -n '/^BTS_FUNCTION$/{n;s/^bts_[a-z]* \(bts_[a-z_]*\)(
 
 # The library's names are these and no others, so that none of its own can meet one of a caller's.
 export_checks() {
-    check "the header's functions" is "$(functions_declared | tr '\n' ' ')" "bts_run bts_run_tariff bts_preview "
+    check "the header's functions" is "$(functions_declared | tr '\n' ' ')" "bts_run bts_run_tariff bts_run_grounds bts_preview "
     command -v nm >"$work/out" || { leave_out 1 "the library's names" "nm is not installed"; return; }
     check "the library's names" is "$(nm -g --defined-only "$lib" | awk 'NF == 3 { print $3 }' | sort)" \
         "$(functions_declared | sort)"

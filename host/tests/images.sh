@@ -10,7 +10,7 @@ image_checks() {
     printf 'A' | cat - "$work/sram" >"$work/chip"
     printf 'READ 1 0x0E008000\nWRITE 1 0x0E008000 7\nWRITE 2 0x0E000001 0x1234\n' >"$work/backup"
     lands 2 2 "an SRAM of 32,768" --sram "$work/chip" --sram-out "$files/chip" "$work/backup"
-    check "a load wraps" is "$(head -n 1 "$work/out")" "0 5 65 0 0 0"
+    check "a load wraps" is "$(head -n 1 "$work/out")" "0 5 65 0 0 0 sram"
     printf 'A\022' >"$work/expected"
     head -c 32766 "$work/sram" >>"$work/expected"
     check "the SRAM afterwards" cmp -s "$files/chip" "$work/expected"

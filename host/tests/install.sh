@@ -41,6 +41,7 @@ package_checks() {
     check "it builds" ${CC:-cc} $(pkg-config --cflags bts) "$work/package.c" $(pkg-config --libs bts) -o "$work/package"
     check "it runs" is "$("$work/package")" "0 2 3
 0 2 3
+0 2 3 ewram
 0 2 3 2"
     unset PKG_CONFIG_SYSROOT_DIR PKG_CONFIG_PATH
 }

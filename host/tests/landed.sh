@@ -29,7 +29,7 @@ commented_hits() {
     run "$@" "$listing"
     check "$listing: status" is "$status" 0
     check "$listing: hits in the lines" is "$(sed '$d' "$work/out" | cut -d' ' -f4)" "$(expected_hits "$listing")"
-    check "$listing: six numbers a line" is "$(grep -cvE '^[0-9]+( [0-9]+){5}$' "$work/out")" 1
+    check "$listing: six numbers a line" is "$(grep -cvE '^[0-9]+( [0-9]+){5}( [a-z]+)*$' "$work/out")" 1
     check "$listing: the count" is "$(cat "$work/err")" "$(sed -n '1s/:$/ (-v names them)/p' "$work/expected")"
 }
 

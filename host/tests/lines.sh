@@ -16,8 +16,8 @@ bench_checks() {
     check "over document 01's memories" cmp -s "$work/out" crates/bench/stdout
 }
 
-# LISTING: how many of its stores land short, and how many it has. What lands short in bench.lst, loop.lst, steps.lst and rows.lst
-# is a halfword to SRAM, or a store to ROM.
+# LISTING: how many of its stores land short, and how many it has. What lands short in bench.lst, loop.lst, steps.lst, rows.lst
+# and grounds.lst is a halfword to SRAM, or a store to ROM.
 shorts_in() { echo "$(grep -ciE '^write (2 0x0e|[124] 0x08)' "$1") $(grep -ci '^write' "$1")"; }
 
 listing_checks() {
@@ -51,8 +51,8 @@ total 27"
 
 # The same sheets through the program bench, where it has been built.
 against_bench() {
-    [ -x target/bin/bench ] || { leave_out 12 "against bench" "rt check bench builds it"; return; }
-    for name in bench loop steps rows; do
+    [ -x target/bin/bench ] || { leave_out 15 "against bench" "rt check bench builds it"; return; }
+    for name in bench loop steps rows grounds; do
         lands $(shorts_in $here/$name.lst) "$name" --bench -o "$files/$name" $here/$name.lst
         target/bin/bench <"$files/$name" >"$work/bench"
         check "$name as bench has it" cmp -s "$work/out" "$work/bench"

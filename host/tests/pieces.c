@@ -8,18 +8,19 @@
 enum { COUNT = 10000, FAULTY = 9000 };
 
 static uint8_t sheet[BTS_HEADER_SIZE + BTS_RECORD_SIZE * COUNT];
-static uint8_t answers[BTS_ANSWER_SIZE * COUNT];
+static uint8_t answers[BTS_ANSWER_SIZE * COUNT], grounds[BTS_GROUNDS_SIZE * COUNT];
 
-typedef bts_report in_pieces(const uint8_t *records, size_t count, struct machine *machine, uint8_t *answers);
+typedef bts_report in_pieces(const uint8_t *records, size_t count, struct machine *machine, const struct room *room);
 
 /* Idle steps of a cycle each, where record `faulty` has a kind that there is none of. */
 static bts_report done_with(size_t faulty, in_pieces *all) {
     uint8_t board[BTS_BOARD_SIZE] = {0};
     struct machine machine = {.board = {board, sizeof board}};
+    struct room room = {.answers = answers, .grounds = grounds};
     for (size_t k = 0; k < COUNT; k++) {
         bts_put_record(sheet, k, k == faulty ? 99 : BTS_IDLE, 0, 0, 0, 1);
     }
-    return all(sheet + BTS_HEADER_SIZE, COUNT, &machine, answers);
+    return all(sheet + BTS_HEADER_SIZE, COUNT, &machine, &room);
 }
 
 static void print_both(in_pieces *all) {

@@ -4,15 +4,14 @@
  * line says how many there were; the exit status is 1 if there was one. */
 #define _DEFAULT_SOURCE /* for anonymous pages */
 
-#include <stdlib.h>
 #include <string.h>
-#include <sys/mman.h>
-#include <unistd.h>
 
 #include "bts.h"
+#include "pages.h"
+#include "records.h"
 #include "trial.h"
 
-enum { SHEETS = 1500, STEPS = 60, BEYOND = 5, FAULTY = 2, CHANGED = 20000, GUARD = 0xA5 };
+enum { SHEETS = 1500, STEPS = 60, BEYOND = 5, FAULTY = 2, CHANGED = 20000 };
 
 /* What a call is lent, as it should be seen: the pages have a copy of it. */
 static struct {
@@ -53,46 +52,6 @@ static bts_report run(const struct memories *m, size_t more, uint8_t *board, uin
 
 /* ---- what is lent */
 
-/* Where opcodes and fetches go on, so that the prefetch is hit, and data accesses too, so that rows come about. */
-static uint32_t trail = 0x08000100;
-
-static uint32_t any_address(uint8_t size) {
-    static const uint32_t ends[] = {0x4000, 0x02040000, 0x04000204, 0x04000800, 0x06010000, 0x06014000, 0x08020000, 0x0A000000,
-                                    0x0E000000, 0x10000000, 0};
-    switch (below(8)) {
-    case 0:
-        return below(17) << 24 | below(0x300);
-    case 1:
-        return ends[below(sizeof ends / sizeof ends[0])] - 4 + below(8);
-    case 2:
-        trail = 0x08000000 + (below(6) << 24) + 0x20 * below(8);
-        break;
-    default:
-        break;
-    }
-    trail += size;
-    return trail - size;
-}
-
-/* A record that breaks no rule. */
-static void put_any_record(size_t k) {
-    static const uint8_t kinds[] = {BTS_READ,  BTS_READ,  BTS_WRITE,       BTS_WRITE,       BTS_WAITCNT,     BTS_IDLE, BTS_IDLE,
-                                    BTS_FETCH, BTS_FETCH, BTS_INSTRUCTION, BTS_INSTRUCTION, BTS_INSTRUCTION, BTS_PC,   BTS_LATCH,
-                                    BTS_RESTART};
-    uint8_t kind = kinds[below(sizeof kinds)], size = 0;
-    bool data = kind == BTS_READ || kind == BTS_WRITE, opcode = kind == BTS_INSTRUCTION;
-    bool placed = data || opcode || kind == BTS_FETCH || kind == BTS_RESTART || kind == BTS_PC;
-    uint32_t value = opcode || kind == BTS_WRITE || kind == BTS_LATCH ? any_number() : kind == BTS_IDLE ? below(30) : 0;
-    if (data || opcode) {
-        size = opcode ? (uint8_t)(2 << below(2)) : (uint8_t)(1 << below(3));
-    }
-    if (kind == BTS_WAITCNT) {
-        value = below(0x10000) | below(2) << 14; /* with the prefetch on more often than not */
-    }
-    uint32_t address = placed ? any_address(kind == BTS_FETCH ? 2 : size) : 0;
-    bts_put_record(lent.sheet, k, kind, size, opcode ? (uint8_t)below(2) : 0, address, value);
-}
-
 /* `steps` records; answers has room for them and at most BEYOND bytes more. The board is left as the caller has it. */
 static void lend(size_t steps) {
     lent.steps = steps;
@@ -102,59 +61,27 @@ static void lend(size_t steps) {
     memset(lent.answers, GUARD, sizeof lent.answers);
     bts_put_header(lent.sheet, (uint32_t)steps);
     for (size_t k = 0; k < steps; k++) {
-        put_any_record(k);
+        put_any_record(lent.sheet, k);
     }
 }
 
 /* ---- the preview of it */
 
-static size_t page_size;
-
-/* Pages for `most` bytes, and one behind them that is never there. */
-static uint8_t *make_pages(size_t most, size_t *len) {
-    *len = (most + page_size - 1) / page_size * page_size;
-    uint8_t *at = mmap(NULL, *len + page_size, PROT_NONE, MAP_PRIVATE | MAP_ANONYMOUS, -1, 0);
-    if (at == MAP_FAILED) {
-        perror("no pages");
-        exit(1);
-    }
-    return at;
-}
-
-/* A copy at the end of the pages, which can then be read alone. */
-static const uint8_t *copy_there(uint8_t *pages, size_t room, const uint8_t *bytes, size_t len) {
-    bool open = mprotect(pages, room, PROT_READ | PROT_WRITE) == 0;
-    if (open) {
-        memcpy(pages + room - len, bytes, len);
-    }
-    if (!open || mprotect(pages, room, PROT_READ) != 0) {
-        perror("no pages");
-        exit(1);
-    }
-    return pages + room - len;
-}
-
-/* A write to sheet or board would end the program. The answers end at a page that isn't there too. */
+/* A write to sheet or board would end the program. */
 static bts_report preview(uint8_t *answers) {
-    static uint8_t *sheet_pages, *board_pages, *answer_pages;
-    static size_t sheet_room, board_room, answer_room;
-    if (sheet_pages == NULL) {
-        sheet_pages = make_pages(sizeof lent.sheet, &sheet_room);
-        board_pages = make_pages(sizeof lent.board, &board_room);
-        answer_pages = make_pages(sizeof lent.answers, &answer_room);
+    static struct pages sheet_pages, board_pages, answer_pages;
+    if (sheet_pages.at == NULL) {
+        sheet_pages = make_pages(sizeof lent.sheet);
+        board_pages = make_pages(sizeof lent.board);
+        answer_pages = make_pages(sizeof lent.answers);
     }
-    const uint8_t *sheet = copy_there(sheet_pages, sheet_room, lent.sheet, lent.sheet_len);
-    const uint8_t *board = copy_there(board_pages, board_room, lent.board, lent.board_len);
-    if (mprotect(answer_pages, answer_room, PROT_READ | PROT_WRITE) != 0) {
-        perror("no pages");
-        exit(1);
-    }
-    uint8_t *written = answer_pages + answer_room - lent.answers_len;
-    memset(answer_pages, GUARD, answer_room);
+    const uint8_t *sheet = lend_there(sheet_pages, lent.sheet, lent.sheet_len);
+    const uint8_t *board = lend_there(board_pages, lent.board, lent.board_len);
+    uint8_t *written = copy_there(answer_pages, lent.answers, lent.answers_len);
     bts_report report = bts_preview(sheet, lent.sheet_len, board, lent.board_len, written, lent.answers_len);
     expect(memcmp(sheet, lent.sheet, lent.sheet_len) == 0, "the sheet stays", 0);
     expect(memcmp(board, lent.board, lent.board_len) == 0, "the board stays", 0);
-    expect(written == answer_pages || written[-1] == GUARD, "what is before the answers stays", 0);
+    expect(guarded(answer_pages, lent.answers_len), "what is before the answers stays", 0);
     memset(answers, GUARD, sizeof lent.answers);
     memcpy(answers, written, lent.answers_len);
     return report;
@@ -336,7 +263,6 @@ static void check_changed(void) {
 }
 
 int main(void) {
-    page_size = (size_t)sysconf(_SC_PAGESIZE);
     fill(store, sizeof store);
     fill(bios, sizeof bios);
     fill(rom, sizeof rom);

@@ -37,7 +37,7 @@ previewed() {
 }
 
 preview_run_checks() {
-    for name in bench loop steps rows landed marks; do
+    for name in bench loop steps rows landed marks grounds; do
         previewed '' $here/$name.lst
     done
     printf '\021\042\063\104\125\146\167' >"$work/image"
@@ -111,7 +111,7 @@ preview_piece_checks() {
 preview_rate_checks() {
     for rate in 1 307 250000 1000000; do
         previewed '' $here/loop.lst --rate $rate
-        check "loop at $rate: there are shares" is "$(head -n 1 "$work/out" | cut -c 88-)" " sum       share departs"
+        check "loop at $rate: there are shares" is "$(head -n 1 "$work/out" | cut -c 101-)" " sum       share departs"
         previewed '' $here/steps.lst --rate $rate
     done
     previewed '--bench' $here/landed.lst --rate 999999

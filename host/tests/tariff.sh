@@ -13,16 +13,16 @@ expected_bill() {
         { before = charge(sum); sum += $2; print money(charge(sum) - before) }'
 }
 
-# The same of the table in $work/out: its column share, which is 12 characters wide behind the 91 of the others, and its charge.
+# The same of the table in $work/out: its column share, which is 12 characters wide behind the 104 of the others, and its charge.
 shown_bill() {
     awk '/^total/ { getline; print; exit }
-         NR > 1 { share = substr($0, 92, 12); gsub(/ /, "", share); print share }' "$work/out"
+         NR > 1 { share = substr($0, 105, 12); gsub(/ /, "", share); print share }' "$work/out"
 }
 
 # The table in $work/out without what the rate adds to it.
 without_bill() {
     awk '/^total/ { behind = 1 }
-         !behind { $0 = substr($0, 1, 91) substr($0, 104) }
+         !behind { $0 = substr($0, 1, 104) substr($0, 117) }
          !/^charge / { print }' "$work/out"
 }
 
@@ -93,7 +93,7 @@ money_checks() {
     check "it costs nothing" is "$(cat "$work/out")" "total 0
 charge 0.00"
     good "nothing in a table" -v --rate 307 /dev/null
-    check "it has the column" is "$(head -n 1 "$work/out" | cut -c 88-)" " sum       share departs"
+    check "it has the column" is "$(head -n 1 "$work/out" | cut -c 101-)" " sum       share departs"
     check "and the charge" is "$(sed 1d "$work/out")" "total 0
 charge 0.00
 0 by the model; no listed departure applies"

@@ -1,8 +1,9 @@
-//! Tariffs for the cases (document 02, W-202): rates and lengths of shares, good and bad, and lists of steps whose totals lie
-//! where the rounding changes.
+//! Tariffs for the cases (document 02, W-202): rates, good and bad, and lists of steps whose totals lie where the rounding
+//! changes.
 
 use crate::bytes::*;
 use crate::gen::{Memories, Plan, Rng};
+use crate::rooms;
 
 /// So many cycles cost the rate, in cents; the highest rate is as much.
 pub const MILLION: u32 = 1_000_000;
@@ -28,29 +29,11 @@ pub fn bad_rate(rng: &mut Rng) -> u32 {
     }
 }
 
-/// A length of shares that does for n steps.
-pub fn enough(rng: &mut Rng, n: usize) -> usize {
-    SHARE * n + if rng.percent(50) { 0 } else { 1 + rng.below(40) }
-}
-
-/// A length of shares that doesn't; there must be a step.
-pub fn too_few(rng: &mut Rng, n: usize) -> usize {
-    let need = SHARE * n;
-    match rng.below(4) {
-        0 => 0,
-        1 => need - SHARE,
-        2 => rng.below(need),
-        _ => need - 1,
-    }
-}
-
 /// The tariff for a case that has none of its own; it follows from the case's name. One in five is refused, if the run isn't.
 pub fn of_name(name: &str, case: &Case) -> Tariff {
-    let seed = name.bytes().fold(0, |sum: u64, byte| sum.wrapping_mul(257).wrapping_add(byte.into()));
-    let mut rng = Rng::new(seed);
-    let n = case.sheet.len().saturating_sub(HEADER) / RECORD;
+    let mut rng = Rng::new(rooms::seed_of(name));
     let rate = if rng.percent(10) { bad_rate(&mut rng) } else { good_rate(&mut rng) };
-    let len = if n > 0 && rng.percent(10) { too_few(&mut rng, n) } else { enough(&mut rng, n) };
+    let len = rooms::any(&mut rng, SHARE, rooms::steps_of(case));
     Tariff { shares: rng.bytes(len), rate }
 }
 
@@ -63,7 +46,7 @@ pub fn random(seed: u64) -> (Plan, Case) {
     let rate = good_rate(&mut rng);
     let records = edges(&mut rng, rate, n);
     let none = Memories { lengths: [0; 7], bios: 0, rom: 0 };
-    let plan = Plan::accepted(Board::default(), &none, &records).billed(enough(&mut rng, n), rate, 0);
+    let plan = Plan::accepted(Board::default(), &none, &records).billed(rooms::enough(&mut rng, SHARE * n), rate, 0);
     let case = plan.random_case(&mut rng);
     (plan, case)
 }

@@ -13,6 +13,8 @@ pub struct Case {
     pub lengths: [usize; 7],
     /// What a run under a tariff has besides, where the case is made for one.
     pub tariff: Option<Tariff>,
+    /// What is lent for the grounds (document 02, W-206), where the case is made for them. It need not be long enough.
+    pub grounds: Option<Vec<u8>>,
 }
 
 /// A tariff (document 02, W-202): the lent shares, and the rate in cents per million cycles. Neither need be good.
@@ -67,25 +69,36 @@ extern "C" {
         rate: u32,
     ) -> Bill;
 
+    pub fn bts_run_grounds(
+        sheet: *const u8, sheet_len: usize, board: *mut u8, board_len: usize,
+        store: *mut u8, store_len: usize, bios: *const u8, bios_len: usize,
+        rom: *const u8, rom_len: usize, answers: *mut u8, answers_len: usize,
+        grounds: *mut u8, grounds_len: usize,
+        ewram: usize, iwram: usize, io: usize, palette: usize, vram: usize, oam: usize, sram: usize,
+    ) -> Report;
+
     pub fn bts_preview(
         sheet: *const u8, sheet_len: usize, board: *const u8, board_len: usize, answers: *mut u8, answers_len: usize,
     ) -> Report;
 }
 
-/// Everything that a run gives back or may have changed. Without a tariff there are no shares, and the charge is 0.
+/// Everything that a run gives back or may have changed. Without a tariff the charge is 0.
 #[derive(Clone)]
 pub struct Outcome {
     pub report: Bill,
     pub board: Vec<u8>,
     pub store: Vec<u8>,
     pub answers: Vec<u8>,
-    pub shares: Vec<u8>,
+    /// The second buffer for what is told of each step: the shares of a tariff or the grounds. Where there is neither, empty.
+    pub second: Vec<u8>,
 }
 
 pub const HEADER: usize = 8;
 pub const RECORD: usize = 12;
 pub const ANSWER: usize = 12;
 pub const SHARE: usize = 8;
+/// The grounds of a step, one byte a beat (W-206).
+pub const GROUNDS: usize = 32;
 pub const BOARD: usize = 80;
 pub const MOST_RECORDS: usize = 4096;
 

@@ -1,7 +1,7 @@
 //! The library's functions on guarded copies of what is lent, and the comparison of what they give with the Rust's side.
 
 use crate::bytes::*;
-use crate::tariff::shares_of;
+use crate::grounds::words_of;
 
 /// The memories of the store, in its order.
 pub const NAMES: [&str; 7] = ["EWRAM", "IWRAM", "I/O", "palette", "VRAM", "OAM", "SRAM"];
@@ -11,6 +11,8 @@ pub const NAMES: [&str; 7] = ["EWRAM", "IWRAM", "I/O", "palette", "VRAM", "OAM",
 pub enum Call<'a> {
     Run,
     RunTariff(&'a Tariff),
+    /// What is lent for the grounds.
+    RunGrounds(&'a [u8]),
     /// Sheet, board and answers alone are lent to it; a case that it is called for has no memories.
     Preview,
 }
@@ -23,16 +25,33 @@ impl Call<'_> {
             Call::RunTariff(tariff) => {
                 format!("bts_run_tariff at rate {}, {} bytes of shares", tariff.rate, tariff.shares.len())
             }
+            Call::RunGrounds(lent) => format!("bts_run_grounds, {} bytes of grounds", lent.len()),
             Call::Preview => "bts_preview".to_string(),
         }
     }
 
-    fn shares(&self) -> &[u8] {
+    /// The second buffer.
+    fn second(&self) -> &[u8] {
         match self {
             Call::RunTariff(tariff) => &tariff.shares,
+            Call::RunGrounds(lent) => lent,
             Call::Run | Call::Preview => &[],
         }
     }
+
+    /// What stands in the second buffer: its name, the bytes of a step, and one step's in words.
+    fn told(&self) -> Told {
+        match self {
+            Call::RunGrounds(_) => Told { name: "grounds", each: GROUNDS, words: words_of },
+            _ => Told { name: "share", each: SHARE, words: |share| u64_at(share, 0).to_string() },
+        }
+    }
+}
+
+struct Told {
+    name: &'static str,
+    each: usize,
+    words: fn(&[u8]) -> String,
 }
 
 const GUARD: usize = 61; // odd, so that the lent bytes are not aligned
@@ -82,7 +101,7 @@ pub struct Library {
     bios: Lent,
     rom: Lent,
     answers: Lent,
-    shares: Lent,
+    second: Lent,
 }
 
 impl Library {
@@ -94,10 +113,11 @@ impl Library {
         self.bios.lend(&case.bios);
         self.rom.lend(&case.rom);
         self.answers.lend(&case.answers);
-        self.shares.lend(call.shares());
+        self.second.lend(call.second());
         let report = match call {
             Call::Run => self.call_run(case.lengths).into(),
             Call::RunTariff(tariff) => self.call_run_tariff(case.lengths, tariff.rate),
+            Call::RunGrounds(_) => self.call_run_grounds(case.lengths).into(),
             Call::Preview => self.call_preview().into(),
         };
         self.untouched(case)?;
@@ -106,7 +126,7 @@ impl Library {
             board: self.board.bytes().to_vec(),
             store: self.store.bytes().to_vec(),
             answers: self.answers.bytes().to_vec(),
-            shares: self.shares.bytes().to_vec(),
+            second: self.second.bytes().to_vec(),
         })
     }
 
@@ -124,16 +144,30 @@ impl Library {
     }
 
     fn call_run_tariff(&mut self, lengths: [usize; 7], rate: u32) -> Bill {
-        let Library { sheet, board, store, bios, rom, answers, shares } = self;
+        let Library { sheet, board, store, bios, rom, answers, second } = self;
         let [ewram, iwram, io, palette, vram, oam, sram] = lengths;
         // as above
         unsafe {
             bts_run_tariff(
                 sheet.start(), sheet.len, board.start(), board.len, store.start(), store.len,
                 bios.start(), bios.len, rom.start(), rom.len, answers.start(), answers.len,
-                shares.start(), shares.len,
+                second.start(), second.len,
                 ewram, iwram, io, palette, vram, oam, sram,
                 rate,
+            )
+        }
+    }
+
+    fn call_run_grounds(&mut self, lengths: [usize; 7]) -> Report {
+        let Library { sheet, board, store, bios, rom, answers, second } = self;
+        let [ewram, iwram, io, palette, vram, oam, sram] = lengths;
+        // as above
+        unsafe {
+            bts_run_grounds(
+                sheet.start(), sheet.len, board.start(), board.len, store.start(), store.len,
+                bios.start(), bios.len, rom.start(), rom.len, answers.start(), answers.len,
+                second.start(), second.len,
+                ewram, iwram, io, palette, vram, oam, sram,
             )
         }
     }
@@ -159,7 +193,7 @@ impl Library {
         }
         let all = [
             ("sheet", &self.sheet), ("board", &self.board), ("store", &self.store),
-            ("BIOS", &self.bios), ("ROM", &self.rom), ("answers", &self.answers), ("shares", &self.shares),
+            ("BIOS", &self.bios), ("ROM", &self.rom), ("answers", &self.answers), ("shares or grounds", &self.second),
         ];
         match all.iter().find(|(_, lent)| !lent.guards_kept()) {
             Some((name, _)) => Err(format!("a byte just outside {name} was changed")),
@@ -169,7 +203,7 @@ impl Library {
 }
 
 /// The first field in which the two outcomes differ, in words.
-pub fn first_difference(case: &Case, rust: &Outcome, library: &Outcome) -> Option<String> {
+pub fn first_difference(case: &Case, call: Call, rust: &Outcome, library: &Outcome) -> Option<String> {
     let (r, l) = (rust.report, library.report);
     if r != l {
         return Some(format!("report: Rust {r:?}, library {l:?}"));
@@ -181,8 +215,8 @@ pub fn first_difference(case: &Case, rust: &Outcome, library: &Outcome) -> Optio
         let (r, l) = (rust.board[i], library.board[i]);
         return Some(format!("board byte {i}: Rust {r:#04X}, library {l:#04X}"));
     }
-    if let Some(i) = first_byte(&rust.shares, &library.shares) {
-        return Some(share_difference(rust, library, i));
+    if let Some(i) = first_byte(&rust.second, &library.second) {
+        return Some(second_difference(case, &call.told(), rust, library, i));
     }
     let i = first_byte(&rust.store, &library.store)?;
     let (r, l) = (rust.store[i], library.store[i]);
@@ -212,15 +246,17 @@ fn answer_difference(case: &Case, rust: &Outcome, library: &Outcome, i: usize) -
     )
 }
 
-/// The Rust's side of a share is the second reading's (tariff.rs), as that of a preview is preview.rs's.
-fn share_difference(rust: &Outcome, library: &Outcome, i: usize) -> String {
-    let k = i / SHARE;
+/// The Rust's side of a share is the second reading's (tariff.rs), that of a ground is grounds.rs's, as that of a preview is
+/// preview.rs's.
+fn second_difference(case: &Case, told: &Told, rust: &Outcome, library: &Outcome, i: usize) -> String {
+    let (k, name) = (i / told.each, told.name);
     if rust.report.number != 0 || k >= rust.report.index as usize {
-        let (r, l) = (rust.shares[i], library.shares[i]);
-        return format!("share byte {i}, which must stay: Rust {r:#04X}, library {l:#04X}");
+        let (r, l) = (rust.second[i], library.second[i]);
+        return format!("{name} byte {i}, which must stay: Rust {r:#04X}, library {l:#04X}");
     }
-    let share = |o: &Outcome| u64_at(&o.shares, SHARE * k);
-    format!("share of step {k}: Rust {}, library {}", share(rust), share(library))
+    let words = |o: &Outcome| (told.words)(&o.second[told.each * k..told.each * (k + 1)]);
+    let step = records_of(&case.sheet)[k];
+    format!("{name} of step {k}, {step:X?}: Rust {}, library {}", words(rust), words(library))
 }
 
 /// The memory and offset of a byte of the store.
@@ -251,10 +287,11 @@ pub fn tell(case: &Case, call: Call, rust: &Outcome, library: &Outcome) {
         let mark = if a == b { "" } else { "   <<<" };
         println!("{k} {r:X?}\n    Rust    {a:X?}\n    library {b:X?}{mark}");
     }
-    let shares = shares_of(&rust.shares).zip(shares_of(&library.shares)).take(records.len());
-    for (k, (a, b)) in shares.enumerate() {
+    let Told { name, each, words } = call.told();
+    let steps = rust.second.chunks_exact(each).zip(library.second.chunks_exact(each)).take(records.len());
+    for (k, (a, b)) in steps.enumerate() {
         let mark = if a == b { "" } else { "   <<<" };
-        println!("share {k}: Rust {a}, library {b}{mark}");
+        println!("{name} {k}: Rust {}, library {}{mark}", words(a), words(b));
     }
     tell_board("Rust   ", &rust.board);
     tell_board("library", &library.board);

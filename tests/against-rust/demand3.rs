@@ -1,7 +1,8 @@
 //! What demand 3 says of one accepted run and of two: the limits on the total, the columns that agree, the shares with them. What
-//! follows for two previews (W-205).
+//! follows for two previews (W-205), and for the grounds of two runs (W-206).
 
 use crate::bytes::*;
+use crate::grounds::words_of;
 use crate::tariff::shares_of;
 
 /// Where two runs with alike sheets and boards differ in answer bytes 4–7, 9 or 10, in byte 8 of any step but WRITE, in the
@@ -30,7 +31,7 @@ pub fn pair_difference(first: &Case, second: &Case, a: &Outcome, b: &Outcome) ->
 }
 
 fn bill_difference(a: &Outcome, b: &Outcome) -> Option<String> {
-    let shares = shares_of(&a.shares).zip(shares_of(&b.shares)).take(a.report.index as usize);
+    let shares = shares_of(&a.second).zip(shares_of(&b.second)).take(a.report.index as usize);
     if let Some((k, (ours, other))) = shares.enumerate().find(|(_, (ours, other))| ours != other) {
         return Some(format!("two alike runs give step {k} shares of {ours} and {other}"));
     }
@@ -46,6 +47,13 @@ pub fn preview_difference(a: &Outcome, b: &Outcome) -> Option<String> {
     let answers = a.answers.chunks_exact(ANSWER).zip(b.answers.chunks_exact(ANSWER)).take(a.report.index as usize);
     let (k, (ours, other)) = answers.enumerate().find(|(_, (ours, other))| ours != other)?;
     Some(format!("two alike previews give step {k} {ours:02X?} and {other:02X?}"))
+}
+
+/// Where two runs with alike sheets and boards differ in a byte of the grounds.
+pub fn ground_difference(a: &Outcome, b: &Outcome) -> Option<String> {
+    let steps = a.second.chunks_exact(GROUNDS).zip(b.second.chunks_exact(GROUNDS)).take(a.report.index as usize);
+    let (k, (ours, other)) = steps.enumerate().find(|(_, (ours, other))| ours != other)?;
+    Some(format!("two alike runs give step {k} the grounds {} and {}", words_of(ours), words_of(other)))
 }
 
 /// Whether the same bytes of both stores must be written at each WRITE: the number depends on the lengths and the display mode

@@ -7,6 +7,7 @@ use crate::demand3::stores_mode;
 use crate::machine::{BIOS_SIZE, ROM_WINDOW_SIZE, SIZES};
 use crate::refusals;
 pub use crate::rng::Rng;
+use crate::rooms;
 use crate::steps::Steps;
 
 // ---- plans: a case but for what its memories hold ----
@@ -26,6 +27,8 @@ pub struct Plan {
     pub behind_4: u32,
     /// The tariff that the case is made for, if it is.
     pub terms: Option<Terms>,
+    /// The buffer for the grounds that the case is made for, if it is.
+    pub grounds: Option<Room>,
 }
 
 /// A tariff but for what its shares hold.
@@ -37,12 +40,21 @@ pub struct Terms {
     pub meant: Option<u32>,
 }
 
-/// The five buffers whose contents before the run a plan leaves open.
+/// A buffer for the grounds but for what it holds.
+#[derive(Clone, Copy)]
+pub struct Room {
+    pub len: usize,
+    /// The number that the run must give with it, as above.
+    pub meant: Option<u32>,
+}
+
+/// The five buffers whose contents before the run a plan leaves open. The second one behind the answers is that of the shares or
+/// of the grounds.
 pub const STORE: u64 = 1;
 pub const BIOS: u64 = 2;
 pub const ROM: u64 = 3;
 pub const ANSWERS: u64 = 4;
-pub const SHARES: u64 = 5;
+pub const SECOND: u64 = 5;
 
 impl Plan {
     /// The case, with contents given by tag and length.
@@ -55,7 +67,8 @@ impl Plan {
             bios: contents(BIOS, self.bios_len),
             rom: contents(ROM, self.rom_len),
             answers: contents(ANSWERS, self.answers_len),
-            tariff: self.terms.map(|terms| Tariff { shares: contents(SHARES, terms.shares_len), rate: terms.rate }),
+            tariff: self.terms.map(|terms| Tariff { shares: contents(SECOND, terms.shares_len), rate: terms.rate }),
+            grounds: self.grounds.map(|room| contents(SECOND, room.len)),
         }
     }
 
@@ -81,13 +94,14 @@ impl Plan {
             meant: Some(0),
             behind_4: 0,
             terms: None,
+            grounds: None,
         }
     }
 
     /// What a preview is lent of the plan.
     pub fn without_memories(self) -> Plan {
         let meant = self.meant_by_preview();
-        Plan { lengths: [0; 7], store_len: 0, bios_len: 0, rom_len: 0, meant, terms: None, ..self }
+        Plan { lengths: [0; 7], store_len: 0, bios_len: 0, rom_len: 0, meant, terms: None, grounds: None, ..self }
     }
 
     /// The plan under a tariff, for which the run must give this number.
@@ -95,10 +109,16 @@ impl Plan {
         Plan { terms: Some(Terms { shares_len, rate, meant: Some(meant) }), ..self }
     }
 
+    /// The plan with a buffer for the grounds, with which the run must give this number.
+    pub fn grounded(self, len: usize, meant: u32) -> Plan {
+        Plan { grounds: Some(Room { len, meant: Some(meant) }), ..self }
+    }
+
     pub fn meant(&self) -> Meant {
         Meant {
             run: self.meant,
             tariff: self.terms.and_then(|terms| terms.meant),
+            grounds: self.grounds.and_then(|room| room.meant),
             preview: self.meant_by_preview(),
         }
     }
@@ -109,16 +129,18 @@ impl Plan {
     }
 }
 
-/// The numbers that a case must give, where they are known: without a tariff, under its own, and by the preview.
+/// The numbers that a case must give, where they are known: without a tariff, under its own, with its own buffer for the grounds,
+/// and by the preview.
 #[derive(Clone, Copy)]
 pub struct Meant {
     pub run: Option<u32>,
     pub tariff: Option<u32>,
+    pub grounds: Option<u32>,
     pub preview: Option<u32>,
 }
 
-pub const ACCEPTED: Meant = Meant { run: Some(0), tariff: Some(0), preview: Some(0) };
-pub const UNKNOWN: Meant = Meant { run: None, tariff: None, preview: None };
+pub const ACCEPTED: Meant = Meant { run: Some(0), tariff: Some(0), grounds: Some(0), preview: Some(0) };
+pub const UNKNOWN: Meant = Meant { run: None, tariff: None, grounds: None, preview: None };
 
 /// Byte i of the buffer `tag` under fill seed `seed`.
 pub fn rule_byte(seed: u32, tag: u64, i: usize) -> u8 {
@@ -226,8 +248,8 @@ pub fn accepted(rng: &mut Rng, large: usize) -> Plan {
     plan
 }
 
-/// Two accepted runs under one rate with alike sheets and alike boards, all else different (demand 3), but in half of the pairs
-/// the lengths and the display modes, so that what lands must agree too (W-201).
+/// Two runs that are accepted, under one rate and with grounds, with alike sheets and alike boards, all else different (demand
+/// 3), but in half of the pairs the lengths and the display modes, so that what lands must agree too (W-201).
 pub fn pair(seed: u64) -> (Case, Case) {
     let mut rng = Rng::new(seed);
     let first = accepted(&mut rng, 2);
@@ -240,8 +262,11 @@ pub fn pair(seed: u64) -> (Case, Case) {
         records_of(&first.sheet).into_iter().map(|r| alike_record(&mut rng, r, same)).collect();
     let board = alike_board(&mut rng, Board::of(&first.board));
     let second = Plan::accepted(board, &memories, &records);
-    let rate = bills::good_rate(&mut rng);
-    let [first, second] = [first, second].map(|plan| plan.billed(bills::enough(&mut rng, records.len()), rate, 0));
+    let (rate, n) = (bills::good_rate(&mut rng), records.len());
+    let [first, second] = [first, second].map(|plan| {
+        let plan = plan.billed(rooms::enough(&mut rng, SHARE * n), rate, 0);
+        plan.grounded(rooms::enough(&mut rng, GROUNDS * n), 0)
+    });
     let (first, mut second) = (first.random_case(&mut rng), second.random_case(&mut rng));
     if same && first.lengths[IO] > 0 {
         let mode: usize = first.lengths[..IO].iter().sum();

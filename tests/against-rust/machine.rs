@@ -1,9 +1,11 @@
 //! Document 01's run, done by calling the unchanged Rust: this is what the library is held against.
 //! The refusals, the order of a step's calls and the data price are document 01's own ("added"); the hits of a WRITE, the
 //! bytes that landed, are document 02's (W-201), and landed.rs has them from the Rust's store. Which access is the previous one,
-//! and which steps forget it, is document 02's too (W-204); what follows for the price is told by the Rust.
+//! and which steps forget it, is document 02's too (W-204); what follows for the price is told by the Rust. Why each step has the
+//! price that it has (W-206) is told by grounds.rs, which is shown the machine before each.
 
 use crate::bytes::*;
+use crate::grounds::{self, Ground, Moment};
 use crate::landed::Probes;
 use graycart::bus::prefetch::PrefetchParts;
 use graycart::bus::region::{
@@ -22,22 +24,25 @@ pub const SIZES: [usize; 7] =
 
 // ---- the run ----
 
+/// What a run of the Rust gives.
+pub struct Ran {
+    pub outcome: Outcome,
+    /// Of each step; of a refused run there are none.
+    pub grounds: Vec<Vec<Ground>>,
+}
+
 /// The whole run: a refusal that leaves every byte, or all records in order. Of a tariff the Rust has nothing (tariff.rs).
-pub fn run(case: &Case) -> Outcome {
+pub fn run(case: &Case) -> Ran {
     if let Some((number, index)) = refusal(case) {
-        return Outcome {
-            report: Report { number, index, total: 0 }.into(),
-            board: case.board.clone(),
-            store: case.store.clone(),
-            answers: case.answers.clone(),
-            shares: Vec::new(),
-        };
+        return Ran { outcome: refused(case, (number, index), &[]), grounds: Vec::new() };
     }
     let mut machine = Machine::new(case);
     let mut answers = case.answers.clone();
     let records = records_of(&case.sheet);
     let mut total = 0u64;
+    let mut grounds = Vec::with_capacity(records.len());
     for (k, record) in records.iter().enumerate() {
+        grounds.push(grounds::of(&machine.moment(), record));
         let answer = machine.step(record);
         total += u64::from(answer.cycles);
         answers[ANSWER * k..ANSWER * (k + 1)].copy_from_slice(&answer.bytes());
@@ -45,12 +50,24 @@ pub fn run(case: &Case) -> Outcome {
     if let Some(probes) = machine.probes.take() {
         probes.check_rest();
     }
-    Outcome {
+    let outcome = Outcome {
         report: Report { number: 0, index: records.len() as u32, total }.into(),
         board: machine.board().bytes(),
         store: machine.store(),
         answers,
-        shares: Vec::new(),
+        second: Vec::new(),
+    };
+    Ran { outcome, grounds }
+}
+
+/// The outcome of a refusal, as (number, index): every byte is as lent, those of the second buffer too.
+pub fn refused(case: &Case, (number, index): (u32, u32), second: &[u8]) -> Outcome {
+    Outcome {
+        report: Report { number, index, total: 0 }.into(),
+        board: case.board.clone(),
+        store: case.store.clone(),
+        answers: case.answers.clone(),
+        second: second.to_vec(),
     }
 }
 
@@ -84,6 +101,17 @@ pub fn refusal(case: &Case) -> Option<(u32, u32)> {
     Some((7, least as u32))
 }
 
+/// The same with a second buffer that needs so many bytes a step, from what the run gives without it: it is looked at beside the
+/// answers.
+pub fn refusal_with_second(case: &Case, plain: &Bill, second: &[u8], each: usize) -> Option<(u32, u32)> {
+    match plain.number {
+        1..=6 => Some((plain.number, 0)),
+        _ if second.len() < each * record_count(&case.sheet) => Some((6, 0)),
+        7 => Some((7, plain.index)),
+        _ => None,
+    }
+}
+
 /// A length over its size, or seven lengths that don't add up to the store (added wide: no wrap).
 fn lengths_refused(case: &Case) -> bool {
     let over = case.lengths.iter().zip(SIZES).any(|(&length, size)| length > size);
@@ -99,8 +127,7 @@ fn lengths_refused(case: &Case) -> bool {
 struct Machine {
     bus: Bus,
     waitcnt: WaitCnt,
-    /// The previous data access: its address as lowered, and its size.
-    previous: Option<(u32, AccessSize)>,
+    previous: Option<Access>,
     /// Made at the first WRITE, since many cases have none.
     probes: Option<Probes>,
 }
@@ -160,6 +187,11 @@ impl Machine {
             prev_size: self.previous.map_or(0, |(_, size)| size.bytes() as u8),
             zeros_73: [0; 7],
         }
+    }
+
+    /// What decides the grounds of the step that comes next.
+    fn moment(&self) -> Moment<'_> {
+        Moment { prefetch: &self.bus.prefetch, forced: self.bus.force_next_fetch_n, previous: self.previous }
     }
 
     fn store(&self) -> Vec<u8> {
@@ -278,42 +310,53 @@ impl Machine {
 
     /// The price of a data access after the previous one, which it is itself from now on.
     fn access(&mut self, size: u8, address: u32) -> u32 {
-        let at = lowered(address, size);
-        let size = access_size(size);
-        let kind = match self.previous {
-            Some((prev_addr, prev_size)) => classify_access(prev_addr, prev_size, at, decode(prev_addr) == decode(at)),
-            None => AccessKind::Nonseq,
-        };
-        self.previous = Some((at, size));
-        match RomWindow::from_addr(address) {
-            Some(window) => self.rom_price(size, at, window, kind),
-            None => self.plain_price(size, address),
-        }
-    }
-
-    /// W-204's price in ROM, at the lowered address.
-    fn rom_price(&self, size: AccessSize, at: u32, window: RomWindow, kind: AccessKind) -> u32 {
-        let tables = self.bus.wait_tables;
-        let first = tables.rom_half_cycles_at(at, window, kind);
-        match size {
-            AccessSize::Word => first + tables.rom_half_cycles(window, AccessKind::Seq),
-            _ => first,
-        }
-    }
-
-    /// Document 01's data price elsewhere, by the region of the address.
-    fn plain_price(&self, size: AccessSize, address: u32) -> u32 {
-        let tables = self.bus.wait_tables;
-        match decode(address) {
-            Region::Ewram => tables.ewram_cycles(size),
-            Region::Palette | Region::Vram => WaitTables::video_ram_cycles(size),
-            Region::GamePakSram => tables.sram_byte_cycles(),
-            _ => WaitTables::fixed_fast_cycles(size),
-        }
+        let price = data_price(self.bus.wait_tables, self.previous, size, address);
+        self.previous = Some((lowered(address, size), access_size(size)));
+        price
     }
 }
 
-fn access_size(bytes: u8) -> AccessSize {
+// ---- the price of a data access ----
+
+/// A data access that is the previous one for the next: its address as lowered, and its size.
+pub type Access = (u32, AccessSize);
+
+/// The price after a previous access, if there was one: W-204's in ROM, else document 01's.
+pub fn data_price(tables: WaitTables, previous: Option<Access>, size: u8, address: u32) -> u32 {
+    match RomWindow::from_addr(address) {
+        Some(window) => rom_price(tables, previous, access_size(size), lowered(address, size), window),
+        None => plain_price(tables, access_size(size), address),
+    }
+}
+
+/// Whether an access at a lowered address goes on from the previous one.
+pub fn kind_after(previous: Option<Access>, at: u32) -> AccessKind {
+    match previous {
+        Some((prev_addr, prev_size)) => classify_access(prev_addr, prev_size, at, decode(prev_addr) == decode(at)),
+        None => AccessKind::Nonseq,
+    }
+}
+
+/// W-204's price in ROM, at the lowered address.
+fn rom_price(tables: WaitTables, previous: Option<Access>, size: AccessSize, at: u32, window: RomWindow) -> u32 {
+    let first = tables.rom_half_cycles_at(at, window, kind_after(previous, at));
+    match size {
+        AccessSize::Word => first + tables.rom_half_cycles(window, AccessKind::Seq),
+        _ => first,
+    }
+}
+
+/// Document 01's data price elsewhere, by the region of the address.
+fn plain_price(tables: WaitTables, size: AccessSize, address: u32) -> u32 {
+    match decode(address) {
+        Region::Ewram => tables.ewram_cycles(size),
+        Region::Palette | Region::Vram => WaitTables::video_ram_cycles(size),
+        Region::GamePakSram => tables.sram_byte_cycles(),
+        _ => WaitTables::fixed_fast_cycles(size),
+    }
+}
+
+pub fn access_size(bytes: u8) -> AccessSize {
     match bytes {
         1 => AccessSize::Byte,
         2 => AccessSize::Half,

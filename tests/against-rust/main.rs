@@ -1,5 +1,5 @@
-//! Compares `bts_run`, `bts_run_tariff` and `bts_preview` of libbts.a with document 01's run done by the Rust, byte for byte.
-//! See README.md for what is compared and how to run it.
+//! Compares `bts_run`, `bts_run_tariff`, `bts_run_grounds` and `bts_preview` of libbts.a with document 01's run done by the Rust,
+//! byte for byte. See README.md for what is compared and how to run it.
 
 mod bills;
 mod boards;
@@ -9,6 +9,9 @@ mod demand3;
 mod differences;
 mod figures;
 mod gen;
+mod ground_lists;
+mod ground_sweeps;
+mod grounds;
 mod landed;
 mod landings;
 mod machine;
@@ -17,9 +20,11 @@ mod preview;
 mod previews;
 mod refusals;
 mod rng;
+mod rooms;
 mod rows;
 mod sample;
 mod sample_bills;
+mod sample_grounds;
 mod sample_previews;
 mod steps;
 mod sweeps;
@@ -55,10 +60,11 @@ struct Tally {
 struct Given {
     /// By the run: under the case's own tariff, if it has one, else without.
     run: Outcome,
+    grounds: Outcome,
     preview: Outcome,
 }
 
-/// What is claimed of one of the two, in words.
+/// What is claimed of one of the three, in words.
 type Claims<'a> = (&'a str, fn(&Given) -> &Outcome);
 
 impl Tally {
@@ -75,22 +81,27 @@ impl Tally {
         println!("DIFFERENCE in case {name}: {what}");
     }
 
-    /// Does the case three times on both sides and compares: without a tariff, under its own or one that follows from its name,
-    /// and by the preview. What both gave, if they agree in all three.
+    /// Does the case four times on both sides and compares: without a tariff, under its own or one that follows from its name,
+    /// with grounds in a buffer of its own or one that follows from its name, and by the preview. What both gave, if they agree
+    /// in all four.
     fn case(&mut self, name: &str, case: &Case, meant: Meant) -> Option<Given> {
         if self.names {
             println!("case {name}");
         }
         let _told = ToldOnPanic(name);
-        let rust = machine::run(case);
-        let plain = self.run(name, case, Call::Run, &rust, meant.run);
+        let ran = machine::run(case);
+        let rust = &ran.outcome;
+        let plain = self.run(name, case, Call::Run, rust, meant.run);
         let tariff = case.tariff.clone().unwrap_or_else(|| bills::of_name(name, case));
         let meant_by_own = case.tariff.as_ref().and(meant.tariff);
-        let billed = self.run(name, case, Call::RunTariff(&tariff), &tariff::under(case, &tariff, &rust), meant_by_own);
+        let billed = self.run(name, case, Call::RunTariff(&tariff), &tariff::under(case, &tariff, rust), meant_by_own);
+        let room = case.grounds.clone().unwrap_or_else(|| rooms::grounds_of_name(name, case));
+        let meant_by_own = case.grounds.as_ref().and(meant.grounds);
+        let grounds = self.run(name, case, Call::RunGrounds(&room), &grounds::with(case, &room, &ran), meant_by_own);
         let lent = preview::lent(case);
-        let preview = self.run(name, &lent, Call::Preview, &preview::of(&lent, &rust), meant.preview);
-        let (plain, billed, preview) = (plain?, billed?, preview?);
-        Some(Given { run: if case.tariff.is_some() { billed } else { plain }, preview })
+        let preview = self.run(name, &lent, Call::Preview, &preview::of(&lent, rust), meant.preview);
+        let (plain, billed, grounds, preview) = (plain?, billed?, grounds?, preview?);
+        Some(Given { run: if case.tariff.is_some() { billed } else { plain }, grounds, preview })
     }
 
     /// Does the case by a function of the library and holds it against the Rust's side; what both gave, if they agree.
@@ -112,10 +123,11 @@ impl Tally {
             if self.only.is_some() {
                 compare::tell(case, call, rust, &library);
             }
-            let difference = compare::first_difference(case, rust, &library)
+            let difference = compare::first_difference(case, call, rust, &library)
                 .or_else(|| demand3::past_limits(case, &library))
                 .or_else(|| match call {
                     Call::RunTariff(tariff) => tariff::unfair(case, tariff, &library),
+                    Call::RunGrounds(_) => grounds::unpaid(case, &library),
                     Call::Run | Call::Preview => None,
                 });
             difference.map_or(Ok(library), Err)
@@ -163,6 +175,13 @@ impl Tally {
     fn rows(&mut self) {
         for (i, (input, claims)) in rows::ROWS.iter().enumerate() {
             self.line(&format!("row:{i}"), input, claims);
+        }
+    }
+
+    fn ground_lists(&mut self) {
+        for (i, (list, claims)) in ground_lists::LISTS.iter().enumerate() {
+            let claims: [Claims; 1] = [(claims, |given| &given.grounds)];
+            self.words(&format!("ground:{i}"), &ground_lists::input(list), UNKNOWN, &claims);
         }
     }
 
@@ -234,7 +253,7 @@ impl Tally {
         self.case(&format!("bill:{seed}"), &case, plan.meant());
     }
 
-    /// Demand 3 on two runs, and what follows for two previews.
+    /// Demand 3 on two runs, and what follows for their grounds and for two previews.
     fn pair(&mut self, seed: u64) {
         let name = format!("pair:{seed}");
         let (first, second) = gen::pair(seed);
@@ -243,8 +262,9 @@ impl Tally {
         self.pairs += 1;
         let (Some(a), Some(b)) = (a, b) else { return };
         let of_runs = demand3::pair_difference(&first, &second, &a.run, &b.run);
+        let of_grounds = demand3::ground_difference(&a.grounds, &b.grounds);
         let of_previews = demand3::preview_difference(&a.preview, &b.preview);
-        for what in of_runs.into_iter().chain(of_previews) {
+        for what in of_runs.into_iter().chain(of_grounds).chain(of_previews) {
             self.differ(&name, &what);
         }
     }
@@ -282,7 +302,7 @@ const USAGE: &str = "usage: run [--names] [SECONDS] | SECONDS --from SEED | --ca
 SECONDS: for the random part, 100 if not given
 --from: the random part alone, from this seed on
 NAME: random:SEED (or SEED alone), pair:SEED, bill:SEED, sweep:N, sample:N, figure:N, landing:N, tariff:N, row:N, preview:N,
-    D-N.K";
+    ground:N, D-N.K";
 
 fn order(words: &[String]) -> Option<Order> {
     let words: Vec<&str> = words.iter().map(String::as_str).collect();
@@ -326,6 +346,7 @@ fn compare_all(tally: &mut Tally, seconds: u64) {
     in_words(tally, "the tariffs", Tally::tariffs);
     in_words(tally, "the rows", Tally::rows);
     in_words(tally, "the previews", Tally::previews);
+    in_words(tally, "the grounds", Tally::ground_lists);
     in_words(tally, DIFFERENCES, |tally| tally.differences_file(DIFFERENCES));
     tally.sample();
     told(tally, "the sample");
@@ -373,6 +394,7 @@ fn one_case(tally: &mut Tally, name: &str) {
         Some(("tariff", _)) => tally.tariffs(),
         Some(("row", _)) => tally.rows(),
         Some(("preview", _)) => tally.previews(),
+        Some(("ground", _)) => tally.ground_lists(),
         _ => tally.differences_file(DIFFERENCES),
     }
 }
@@ -384,11 +406,12 @@ fn record(tally: &mut Tally, file: &str) {
     let mut out = (entries.len() as u32).to_le_bytes().to_vec();
     for (i, entry) in entries.iter().enumerate() {
         let case = entry.case(i);
-        let plain = machine::run(&case);
+        let ran = machine::run(&case);
         let given = match entry.call(&case) {
-            Call::Run => plain,
-            Call::RunTariff(tariff) => tariff::under(&case, tariff, &plain),
-            Call::Preview => preview::of(&case, &plain),
+            Call::Run => ran.outcome,
+            Call::RunTariff(tariff) => tariff::under(&case, tariff, &ran.outcome),
+            Call::RunGrounds(lent) => grounds::with(&case, lent, &ran),
+            Call::Preview => preview::of(&case, &ran.outcome),
         };
         out.extend(sample::encode(&case, entry.call(&case), i as u32, &given));
     }

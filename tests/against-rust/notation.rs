@@ -2,6 +2,7 @@
 
 use crate::bytes::*;
 use crate::compare::NAMES;
+use crate::grounds::{self, words_of};
 use crate::machine::{BIOS_SIZE, ROM_WINDOW_SIZE, SIZES};
 use crate::tariff::shares_of;
 
@@ -14,7 +15,7 @@ pub fn case_of(text: &str) -> Result<Case, String> {
         let words: Vec<&str> = item.split_whitespace().collect();
         setting.item(&words).ok_or(format!("can't read the item \"{item}\""))?;
     }
-    setting.case().ok_or("a byte past the end of its buffer".to_string())
+    setting.case().ok_or("a byte past the end of its buffer, or a buffer that isn't lent".to_string())
 }
 
 struct Setting {
@@ -24,13 +25,15 @@ struct Setting {
     board: Board,
     records: Vec<Record>,
     rate: Option<u32>,
+    /// Whether a buffer for the grounds is lent.
+    with_grounds: bool,
     /// What is changed at the end in the bytes that are lent.
     changes: Vec<Change>,
 }
 
 /// A byte of a buffer set to a value, or a buffer cut off or lengthened by zeros.
 struct Change {
-    buffer: fn(&mut Case) -> &mut Vec<u8>,
+    buffer: fn(&mut Case) -> Option<&mut Vec<u8>>,
     what: What,
 }
 
@@ -49,12 +52,14 @@ impl Setting {
             board: Board::default(),
             records: Vec::new(),
             rate: None,
+            with_grounds: false,
             changes: Vec::new(),
         }
     }
 
     fn case(self) -> Option<Case> {
         let shares = vec![0x3C; SHARE * self.records.len()];
+        let grounds = vec![0x3C; GROUNDS * self.records.len()];
         let mut case = Case {
             sheet: sheet_of(&self.records),
             board: self.board.bytes(),
@@ -64,9 +69,10 @@ impl Setting {
             rom: self.rom,
             answers: vec![0x3C; ANSWER * self.records.len()],
             tariff: self.rate.map(|rate| Tariff { shares, rate }),
+            grounds: self.with_grounds.then_some(grounds),
         };
         for Change { buffer, what } in self.changes {
-            let bytes = buffer(&mut case);
+            let bytes = buffer(&mut case)?;
             match what {
                 What::Byte(at, byte) => *bytes.get_mut(at)? = byte,
                 What::Length(length) => bytes.resize(length, 0),
@@ -95,7 +101,7 @@ impl Setting {
                 }
             }
             ["no", name] => self.memory(name)?.0.clear(),
-            [name @ ("sheet" | "board" | "store" | "answers"), "of", length, "byte" | "bytes"] => {
+            [name @ ("sheet" | "board" | "store" | "answers" | "grounds"), "of", length, "byte" | "bytes"] => {
                 self.change(name, What::Length(number(length)? as usize))?;
             }
             [name @ ("sheet" | "board"), "byte", at, byte] => {
@@ -107,24 +113,31 @@ impl Setting {
             }
             [name, "of", length, "byte" | "bytes"] => self.lend(name, vec![0; number(length)? as usize])?,
             ["board", "WAITCNT", value] => self.board.waitcnt = number(value)?.try_into().ok()?,
+            ["board", "flag", value] => self.board.force = number(value)?.try_into().ok()?,
             ["board", "VRAM", "counter", value] => self.board.vram = number(value)?,
             ["board", "previous", size, "at", address] => {
                 self.board.prev_size = word(size)?.try_into().ok()?;
                 self.board.prev_addr = word(address)?;
             }
             ["board", "buffer", "at", address, halfwords @ ..] => self.buffer(word(address)?, halfwords)?,
+            ["board", "next", address] => self.board.next = word(address)?,
+            ["board", "next", address, "in", cycles] => {
+                self.board = Board { next: word(address)?, filling: 1, wait_left: word(cycles)?, ..self.board };
+            }
             ["rate", rate] => self.rate = Some(word(rate)?),
+            ["with", "grounds"] => self.with_grounds = true,
             _ => self.records.push(step(words)?),
         }
         Some(())
     }
 
     fn change(&mut self, name: &str, what: What) -> Option<()> {
-        let buffer: fn(&mut Case) -> &mut Vec<u8> = match name {
-            "sheet" => |case| &mut case.sheet,
-            "board" => |case| &mut case.board,
-            "store" => |case| &mut case.store,
-            "answers" => |case| &mut case.answers,
+        let buffer: fn(&mut Case) -> Option<&mut Vec<u8>> = match name {
+            "sheet" => |case| Some(&mut case.sheet),
+            "board" => |case| Some(&mut case.board),
+            "store" => |case| Some(&mut case.store),
+            "answers" => |case| Some(&mut case.answers),
+            "grounds" => |case| case.grounds.as_mut(),
             _ => return None,
         };
         self.changes.push(Change { buffer, what });
@@ -249,6 +262,8 @@ enum Claim {
     /// Those of the last steps, in cents.
     Shares(Vec<u64>),
     Charge(u64),
+    /// Those of the last steps, each step's as the bytes that aren't 0.
+    Grounds(Vec<Vec<u8>>),
     /// A memory's byte after the run.
     Byte(usize, u64, u64),
     /// How many bytes of the store the run changed.
@@ -274,9 +289,10 @@ impl Claim {
             ["total", v, ..] => (Claim::Total(number(v)?), 2),
             ["charge", v, ..] => (Claim::Charge(number(v)?), 2),
             ["changed", v, ..] => (Claim::Changed(number(v)?), 2),
-            ["cycles", rest @ ..] => Claim::list(rest, Claim::Cycles)?,
-            ["hits", rest @ ..] => Claim::list(rest, Claim::Hits)?,
-            ["shares", rest @ ..] => Claim::list(rest, Claim::Shares)?,
+            ["cycles", rest @ ..] => Claim::list(rest, number, Claim::Cycles)?,
+            ["hits", rest @ ..] => Claim::list(rest, number, Claim::Hits)?,
+            ["shares", rest @ ..] => Claim::list(rest, number, Claim::Shares)?,
+            ["grounds", rest @ ..] => Claim::list(rest, ground_bytes, Claim::Grounds)?,
             [v, "cycle" | "cycles", ..] => (Claim::Cycles(vec![number(v)?]), 2),
             [memory, "byte", at, v, ..] => {
                 let which = NAMES.iter().position(|n| n == memory)?;
@@ -286,9 +302,9 @@ impl Claim {
         })
     }
 
-    /// A claim about the last steps: a word and a number for each.
-    fn list(words: &[&str], claim: fn(Vec<u64>) -> Claim) -> Option<(Claim, usize)> {
-        let list: Vec<u64> = words.iter().map_while(|w| number(w)).collect();
+    /// A claim about the last steps: what is claimed, and a word for each.
+    fn list<T>(words: &[&str], read: fn(&str) -> Option<T>, claim: fn(Vec<T>) -> Claim) -> Option<(Claim, usize)> {
+        let list: Vec<T> = words.iter().map_while(|w| read(w)).collect();
         let used = 1 + list.len();
         (used > 1).then(|| (claim(list), used))
     }
@@ -315,8 +331,9 @@ impl Claim {
             Claim::Flag(v) => same("flag", *v, last()?.force.into()),
             Claim::Total(v) => same("total", *v, outcome.report.total),
             Claim::Cycles(list) => same_list("cycles", list, &column(|a| a.cycles.into())),
-            Claim::Shares(list) => same_list("shares", list, &shares_of(&outcome.shares).collect::<Vec<_>>()),
+            Claim::Shares(list) => same_list("shares", list, &shares_of(&outcome.second).collect::<Vec<_>>()),
             Claim::Charge(v) => same("charge", *v, outcome.report.charge),
+            Claim::Grounds(list) => same_grounds(list, outcome),
             Claim::Byte(which, at, v) => {
                 let start: usize = case.lengths[..*which].iter().sum();
                 let byte = outcome.store[start + *at as usize];
@@ -341,6 +358,28 @@ fn same_bytes(claimed: &[u8; ANSWER], given: Option<&[u8]>) -> Result<(), String
         Some(given) if given == claimed => Ok(()),
         _ => Err(format!("answer: {claimed:02X?} is claimed, {given:02X?} was given")),
     }
+}
+
+/// A step's grounds as `hit+seq`, or `none`.
+fn ground_bytes(word: &str) -> Option<Vec<u8>> {
+    match word {
+        "none" => Some(Vec::new()),
+        _ => word.split('+').map(grounds::byte_of).collect(),
+    }
+}
+
+/// The grounds of the last steps, with zeros up to the end of each step's bytes.
+fn same_grounds(list: &[Vec<u8>], outcome: &Outcome) -> Result<(), String> {
+    let n = outcome.report.index as usize;
+    let skipped = n.checked_sub(list.len()).ok_or("grounds of more steps than there are")?;
+    let given = outcome.second.chunks_exact(GROUNDS).take(n).skip(skipped);
+    for (claimed, given) in list.iter().zip(given) {
+        let (beats, rest) = given.split_at(claimed.len());
+        if beats != claimed || rest.iter().any(|&byte| byte != 0) {
+            return Err(format!("grounds: {} is claimed, {} was given", words_of(claimed), words_of(given)));
+        }
+    }
+    Ok(())
 }
 
 /// The numbers of the last steps.

@@ -19,6 +19,7 @@ pub fn lent(case: &Case) -> Case {
         answers: case.answers.clone(),
         lengths: [0; 7],
         tariff: None,
+        grounds: None,
     }
 }
 
@@ -26,7 +27,7 @@ pub fn lent(case: &Case) -> Case {
 /// its memories, then from the run over none.
 pub fn of(lent: &Case, run: &Outcome) -> Outcome {
     match run.report.number {
-        LENGTHS => shown(lent, &machine::run(lent)),
+        LENGTHS => shown(lent, &machine::run(lent).outcome),
         _ => shown(lent, run),
     }
 }
@@ -41,7 +42,7 @@ fn shown(lent: &Case, run: &Outcome) -> Outcome {
             answers[at][zeros(record.kind)].fill(0);
         }
     }
-    Outcome { report: run.report, board: lent.board.clone(), store: Vec::new(), answers, shares: Vec::new() }
+    Outcome { report: run.report, board: lent.board.clone(), store: Vec::new(), answers, second: Vec::new() }
 }
 
 /// The bytes of an answer that a preview doesn't tell: the value of READ and FETCH, the hits of WRITE.

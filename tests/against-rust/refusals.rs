@@ -1,27 +1,35 @@
-//! Cases that a run must refuse: each of the seven conditions alone, several at once, random damage; and under a tariff, which
-//! adds an eighth.
+//! Cases that a run must refuse: each of the seven conditions alone, several at once, random damage; with a buffer for the
+//! grounds, which 6 looks at too; and under a tariff, which adds an eighth.
 
 use crate::bills;
 use crate::boards;
 use crate::bytes::*;
 use crate::gen::{self, Plan, Rng};
 use crate::machine::{BIOS_SIZE, ROM_WINDOW_SIZE, SIZES};
+use crate::rooms;
 
 pub fn one(rng: &mut Rng) -> Plan {
     let number = 1 + rng.below(8) as u32;
-    let short = rng.pick(&SHORT);
-    under_tariff(rng, &[number], short)
+    with_second(rng, &[number])
 }
 
 /// Two conditions or more: the first in the table's order decides.
 pub fn several(rng: &mut Rng) -> Plan {
-    let numbers = set_of_eight(1 + rng.below(255));
+    let numbers = set_of(1 + rng.below(255));
+    with_second(rng, &numbers)
+}
+
+/// Under a tariff or, if 8 isn't among them, with grounds.
+fn with_second(rng: &mut Rng, numbers: &[u32]) -> Plan {
     let short = rng.pick(&SHORT);
-    under_tariff(rng, &numbers, short)
+    match numbers.contains(&8) || rng.percent(50) {
+        true => under_tariff(rng, numbers, short),
+        false => with_grounds(rng, numbers, short),
+    }
 }
 
 /// The conditions of a set, whose lowest bit is that of 1.
-pub fn set_of_eight(set: usize) -> Vec<u32> {
+pub fn set_of(set: usize) -> Vec<u32> {
     (1..=8).filter(|k| set >> (k - 1) & 1 == 1).collect()
 }
 
@@ -32,27 +40,44 @@ pub fn with(rng: &mut Rng, numbers: &[u32]) -> Plan {
     plan
 }
 
-/// Which buffers are too short where a run under a tariff meets 6.
+/// Which buffers are too short where a run with a second one, shares or grounds, meets 6.
 #[derive(Clone, Copy, PartialEq)]
 pub enum Short {
     Answers,
-    Shares,
+    Second,
     Both,
 }
 
-pub const SHORT: [Short; 3] = [Short::Answers, Short::Shares, Short::Both];
+pub const SHORT: [Short; 3] = [Short::Answers, Short::Second, Short::Both];
 
 /// The same under a tariff, for which 8 is a bad rate. Without a tariff 8 isn't met, nor is 6 where only the shares are short.
 pub fn under_tariff(rng: &mut Rng, numbers: &[u32], short: Short) -> Plan {
     let mut plan = some_steps(rng);
-    let n = record_count(&plan.sheet);
-    let short_shares = numbers.contains(&6) && short != Short::Answers;
-    let shares_len = if short_shares { bills::too_few(rng, n) } else { bills::enough(rng, n) };
+    let shares_len = second_len(rng, &plan, SHARE, numbers, short);
     let rate = if numbers.contains(&8) { bills::bad_rate(rng) } else { bills::good_rate(rng) };
-    let of_run = |k: u32| k < 8 && (k != 6 || short != Short::Shares);
-    let numbers_of_run: Vec<u32> = numbers.iter().copied().filter(|&k| of_run(k)).collect();
-    make_true(rng, &mut plan, &numbers_of_run);
+    make_true(rng, &mut plan, &of_run(numbers, short));
     plan.billed(shares_len, rate, numbers.first().copied().unwrap_or(0))
+}
+
+/// The same with a buffer for the grounds. Without it 6 isn't met where it alone is short.
+pub fn with_grounds(rng: &mut Rng, numbers: &[u32], short: Short) -> Plan {
+    let mut plan = some_steps(rng);
+    let len = second_len(rng, &plan, GROUNDS, numbers, short);
+    make_true(rng, &mut plan, &of_run(numbers, short));
+    plan.grounded(len, numbers.first().copied().unwrap_or(0))
+}
+
+/// A length of the second buffer, too short where 6 is met by it.
+fn second_len(rng: &mut Rng, plan: &Plan, each: usize, numbers: &[u32], short: Short) -> usize {
+    let n = record_count(&plan.sheet);
+    let too_short = numbers.contains(&6) && short != Short::Answers;
+    if too_short { rooms::too_few(rng, each, n) } else { rooms::enough(rng, each * n) }
+}
+
+/// Those that a run meets which has no second buffer and no rate.
+fn of_run(numbers: &[u32], short: Short) -> Vec<u32> {
+    let met = |k: u32| k < 8 && (k != 6 || short != Short::Second);
+    numbers.iter().copied().filter(|&k| met(k)).collect()
 }
 
 /// An accepted plan with a record, which 6 and 7 need.

@@ -11,12 +11,13 @@ use crate::notation;
 use crate::refusals;
 use crate::rows::ROWS;
 use crate::sample_bills;
+use crate::sample_grounds;
 use crate::sample_previews;
 use crate::steps::Steps;
 use crate::sweeps::{edge_plan, end_plan, faulty_plan, fill, one_of_each, row_plan, ENDS};
 
 /// The most that a case of the sample lends, so that a replaying program can have fixed buffers:
-/// sheet, board, store, BIOS, ROM, answers, shares.
+/// sheet, board, store, BIOS, ROM, answers, and the second buffer, which the grounds need the longest.
 pub const MOST: [usize; 7] = [
     HEADER + RECORD * (MOST_RECORDS + 1),
     144,
@@ -24,10 +25,11 @@ pub const MOST: [usize; 7] = [
     BIOS_SIZE + 1,
     0x20040,
     ANSWER * (MOST_RECORDS + 1),
-    SHARE * (MOST_RECORDS + 1),
+    GROUNDS * (MOST_RECORDS + 1),
 ];
 
-/// A case of the sample: its plan, and whether it is recorded as a preview; else it is a run, under its tariff if it has one.
+/// A case of the sample: its plan, and whether it is recorded as a preview; else it is a run, under its tariff or with grounds if
+/// it has either.
 pub struct Entry {
     pub plan: Plan,
     preview: bool,
@@ -41,22 +43,24 @@ impl Entry {
 
     /// The function that the case is recorded of.
     pub fn call<'a>(&self, case: &'a Case) -> Call<'a> {
-        match &case.tariff {
-            Some(tariff) => Call::RunTariff(tariff),
-            None if self.preview => Call::Preview,
-            None => Call::Run,
+        match (&case.tariff, &case.grounds) {
+            (Some(tariff), _) => Call::RunTariff(tariff),
+            (None, Some(lent)) => Call::RunGrounds(lent),
+            (None, None) if self.preview => Call::Preview,
+            (None, None) => Call::Run,
         }
     }
 }
 
-/// The cases of the sample in order.
+/// The cases of the sample in order. New ones go to the end, so that those that stand keep their places.
 pub fn entries() -> Vec<Entry> {
     let runs = runs().into_iter().map(|plan| Entry { plan, preview: false });
     let previews = sample_previews::plans().into_iter().map(|plan| Entry { plan, preview: true });
-    runs.chain(previews).collect()
+    let grounds = sample_grounds::plans().into_iter().map(|plan| Entry { plan, preview: false });
+    runs.chain(previews).chain(grounds).collect()
 }
 
-/// Those of runs, at last the ones under a tariff.
+/// Those of runs without grounds, at last the ones under a tariff.
 fn runs() -> Vec<Plan> {
     let mut plans = Vec::new();
     figures(&mut plans);
@@ -318,8 +322,8 @@ fn memory_ends(plans: &mut Vec<Plan>) {
 
 // ---- the file ----
 
-/// One case: its head, sheet, board, and what the Rust gives; under a tariff, what tariff.rs makes of that, and of a preview,
-/// what preview.rs does.
+/// One case: its head, sheet, board, and what the Rust gives; under a tariff, what tariff.rs makes of that, with grounds, what
+/// grounds.rs does, and of a preview, what preview.rs does.
 pub fn encode(case: &Case, call: Call, fill_seed: u32, rust: &Outcome) -> Vec<u8> {
     let mut out = head(case, call, fill_seed);
     out.extend(&case.sheet);
@@ -330,7 +334,7 @@ pub fn encode(case: &Case, call: Call, fill_seed: u32, rust: &Outcome) -> Vec<u8
     out.extend(rust.report.charge.to_le_bytes());
     out.extend(&rust.board);
     out.extend(&rust.answers);
-    out.extend(&rust.shares);
+    out.extend(&rust.second);
     let changed: Vec<usize> = (0..case.store.len()).filter(|&i| case.store[i] != rust.store[i]).collect();
     out.extend((changed.len() as u32).to_le_bytes());
     for i in changed {
@@ -344,18 +348,20 @@ pub fn encode(case: &Case, call: Call, fill_seed: u32, rust: &Outcome) -> Vec<u8
 const RUN: usize = 0;
 const RUN_TARIFF: usize = 1;
 const PREVIEW: usize = 2;
+const RUN_GROUNDS: usize = 3;
 
 /// The 17 numbers before the bytes of a case: what is lent is told by its length.
 fn head(case: &Case, call: Call, fill_seed: u32) -> Vec<u8> {
-    let (shares, function, rate) = match call {
+    let (second, function, rate) = match call {
         Call::Run => (0, RUN, 0),
         Call::RunTariff(tariff) => (tariff.shares.len(), RUN_TARIFF, tariff.rate),
+        Call::RunGrounds(lent) => (lent.len(), RUN_GROUNDS, 0),
         Call::Preview => (0, PREVIEW, 0),
     };
     let lent = [&case.sheet, &case.board, &case.store, &case.bios, &case.rom, &case.answers].map(Vec::len);
-    assert!(lent.into_iter().chain([shares]).zip(MOST).all(|(length, most)| length <= most));
+    assert!(lent.into_iter().chain([second]).zip(MOST).all(|(length, most)| length <= most));
     let mut numbers = lent.to_vec();
     numbers.extend(case.lengths);
-    numbers.extend([fill_seed as usize, shares, function, rate as usize]);
+    numbers.extend([fill_seed as usize, second, function, rate as usize]);
     numbers.into_iter().flat_map(|n| u32::try_from(n).unwrap().to_le_bytes()).collect()
 }

@@ -1,10 +1,11 @@
-//! The sample's cases under a tariff (document 02, W-202), which stand behind all others.
+//! The sample's cases under a tariff (document 02, W-202), which stand behind all other runs without grounds.
 
 use crate::bills::{self, MILLION};
 use crate::bytes::*;
 use crate::gen::{Memories, Plan, Rng};
 use crate::notation;
 use crate::refusals::{self, Short};
+use crate::rooms;
 use crate::sample::{few, prefetch_on, random_list, small_enough};
 use crate::sweeps::one_of_each;
 use crate::tariffs::TARIFFS;
@@ -64,7 +65,7 @@ fn lists(plans: &mut Vec<Plan>) {
     for seed in 0..9 {
         let mut rng = Rng::new(30_000 + seed);
         let plan = random_list(&mut rng, seed / 3, 40);
-        let (rate, length) = (bills::good_rate(&mut rng), bills::enough(&mut rng, 40));
+        let (rate, length) = (bills::good_rate(&mut rng), rooms::enough(&mut rng, SHARE * 40));
         plans.push(plan.billed(length, rate, 0));
     }
     for rate in [1, 307, 333_333, MILLION - 1] {
@@ -80,15 +81,15 @@ fn refused(plans: &mut Vec<Plan>) {
         plans.push(small_enough(300, seed, |rng| refusals::under_tariff(rng, numbers, short)));
     };
     for first in 1..=8 {
-        push(&[first], Short::Shares);
+        push(&[first], Short::Second);
         for second in first + 1..=8 {
-            push(&[first, second], Short::Shares);
+            push(&[first, second], Short::Second);
         }
     }
     push(&[6], Short::Both);
     push(&[6, 7], Short::Answers);
     push(&[6, 8], Short::Answers);
-    push(&[6, 7, 8], Short::Shares);
+    push(&[6, 7, 8], Short::Second);
 }
 
 /// Sheets of 4,096 records: the highest total there is, at the highest rate but one; and all kinds, with the longest shares lent.

@@ -1,9 +1,11 @@
-//! Inputs gone through one by one: header, record and board bytes, opcodes, WAITCNT, regions, lengths, rates, rows of accesses.
+//! Inputs gone through one by one: header, record and board bytes, opcodes, WAITCNT, regions, lengths, rates, rows of accesses;
+//! those for the grounds are in ground_sweeps.rs.
 
 use crate::bills::{self, MILLION};
 use crate::boards::{self, CODE_EDGES, ROW_EDGES};
 use crate::bytes::*;
 use crate::gen::{Memories, Plan, Rng};
+use crate::ground_sweeps;
 use crate::machine::{BIOS_SIZE, ROM_WINDOW_SIZE, SIZES};
 use crate::refusals::{self, SHORT};
 use crate::steps::{load_or_store, EDGES, ROW_WAITS};
@@ -33,9 +35,10 @@ pub fn for_each(visit: &mut dyn FnMut(Plan)) {
     previous_accesses(visit);
     previous_fields(visit);
     steps_between(visit);
+    ground_sweeps::for_each(visit);
 }
 
-fn small() -> Memories {
+pub fn small() -> Memories {
     Memories { lengths: [40, 33, 8, 16, 24, 5, 7], bios: 32, rom: 0x140 }
 }
 
@@ -43,7 +46,7 @@ fn full() -> Memories {
     Memories { lengths: SIZES, bios: BIOS_SIZE, rom: 0x20010 }
 }
 
-fn prefetch_on() -> Board {
+pub fn prefetch_on() -> Board {
     Board { waitcnt: 0x4000, ..Board::default() }
 }
 
@@ -72,7 +75,7 @@ pub fn one_of_each() -> Vec<Record> {
 /// sets of the seven, and for the preview those of the six without 4; some are accepted.
 fn refusal_sets(visit: &mut dyn FnMut(Plan)) {
     for set in 1..256 {
-        let numbers = refusals::set_of_eight(set);
+        let numbers = refusals::set_of(set);
         let ways = if numbers.contains(&6) { &SHORT[..] } else { &SHORT[..1] };
         for (way, &short) in ways.iter().enumerate() {
             for turn in 0..8 {
@@ -534,7 +537,7 @@ pub fn row_plan(waitcnt: u16, edge: u32, size: u8, reach: u32) -> Plan {
 }
 
 /// The places from so many bytes below an edge to as many above it, modulo 2^32.
-fn near(edge: u32, reach: u32) -> impl Iterator<Item = u32> {
+pub fn near(edge: u32, reach: u32) -> impl Iterator<Item = u32> {
     (0..2 * reach).map(move |by| edge.wrapping_sub(reach).wrapping_add(by))
 }
 

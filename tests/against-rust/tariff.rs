@@ -2,20 +2,15 @@
 //! has no tariff, so the run itself is the Rust's as it is without one (machine.rs), and this adds charge, shares and refusals.
 
 use crate::bytes::*;
+use crate::machine::{refusal_with_second, refused};
 
 /// The rate is in cents per so many cycles; it is also the highest rate.
 const MILLION: u128 = 1_000_000;
 
 /// What the case gives under the tariff, from what it gives without one.
 pub fn under(case: &Case, tariff: &Tariff, plain: &Outcome) -> Outcome {
-    if let Some((number, index)) = refusal(case, tariff, &plain.report) {
-        return Outcome {
-            report: Bill { number, index, total: 0, charge: 0 },
-            board: case.board.clone(),
-            store: case.store.clone(),
-            answers: case.answers.clone(),
-            shares: tariff.shares.clone(),
-        };
+    if let Some(refusal) = refusal(case, tariff, &plain.report) {
+        return refused(case, refusal, &tariff.shares);
     }
     let mut shares = tariff.shares.clone();
     let (mut cycles, mut charge) = (0, 0);
@@ -25,20 +20,15 @@ pub fn under(case: &Case, tariff: &Tariff, plain: &Outcome) -> Outcome {
         charge = charge_of(cycles, tariff.rate);
         shares[SHARE * k..SHARE * (k + 1)].copy_from_slice(&(charge - before).to_le_bytes());
     }
-    Outcome { report: Bill { charge, ..plain.report }, shares, ..plain.clone() }
+    Outcome { report: Bill { charge, ..plain.report }, second: shares, ..plain.clone() }
 }
 
 /// The first condition that is met, as (number, index): those of document 01's table in its order, short shares beside short
 /// answers, and the rate after them all.
 fn refusal(case: &Case, tariff: &Tariff, plain: &Bill) -> Option<(u32, u32)> {
     let rate = u128::from(tariff.rate);
-    match plain.number {
-        1..=6 => Some((plain.number, 0)),
-        _ if tariff.shares.len() < SHARE * record_count(&case.sheet) => Some((6, 0)),
-        7 => Some((7, plain.index)),
-        _ if rate == 0 || rate > MILLION => Some((8, 0)),
-        _ => None,
-    }
+    let bad_rate = (rate == 0 || rate > MILLION).then_some((8, 0));
+    refusal_with_second(case, plain, &tariff.shares, SHARE).or(bad_rate)
 }
 
 /// The answers of an accepted run.
@@ -72,7 +62,7 @@ pub fn unfair(case: &Case, tariff: &Tariff, outcome: &Outcome) -> Option<String>
     }
     let rate = u128::from(tariff.rate);
     let mut sum = 0;
-    for (k, (answer, share)) in answers_of(case, outcome).zip(shares_of(&outcome.shares)).enumerate() {
+    for (k, (answer, share)) in answers_of(case, outcome).zip(shares_of(&outcome.second)).enumerate() {
         let (paid, cost) = (u128::from(share) * MILLION, u128::from(answer.cycles) * rate);
         if paid >= cost + MILLION || cost >= paid + MILLION {
             return Some(format!("step {k} has {} cycles at rate {rate}, and its share is {share}", answer.cycles));

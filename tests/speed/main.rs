@@ -1,6 +1,6 @@
 //! Times `bts_run` of libbts.a against document 01's run done by the Rust, on the same sheets and memories, shows that the cost
-//! of a step doesn't grow, and times `bts_run_tariff` and `bts_preview` against `bts_run`. See README.md for what is timed and
-//! what the columns mean.
+//! of a step doesn't grow, and times `bts_run_tariff`, `bts_preview` and `bts_run_grounds` against `bts_run`. See README.md for
+//! what is timed and what the columns mean.
 
 // the Rust's own files; not all that they have is called here
 #[allow(dead_code, unused_imports)]
@@ -22,7 +22,7 @@ mod timing;
 
 use race::Table;
 use sheets::{ROWS, SORTS};
-use sides::{LIBRARY_AND_RUST, PREVIEW_AND_RUN, TARIFF_AND_RUN};
+use sides::{GROUNDS_AND_RUN, LIBRARY_AND_RUST, PREVIEW_AND_RUN, TARIFF_AND_RUN};
 use std::process::ExitCode;
 
 /// Rounds of the first table.
@@ -48,8 +48,12 @@ fn program(rounds: usize) -> Result<bool, String> {
     let billed_by_turns = shown(Table::time("tariff second", &TARIFF_AND_RUN, judged(), MANY, fewer)?);
     let previewed = shown(Table::time("preview first", &PREVIEW_AND_RUN, judged(), 1, rounds)?);
     let previewed_by_turns = shown(Table::time("preview second", &PREVIEW_AND_RUN, judged(), MANY, fewer)?);
+    let grounded = shown(Table::time("grounds first", &GROUNDS_AND_RUN, judged(), 1, rounds)?);
+    let grounded_by_turns = shown(Table::time("grounds second", &GROUNDS_AND_RUN, judged(), MANY, fewer)?);
     shown(Table::time("rows", &LIBRARY_AND_RUST, [&ROWS].into_iter(), 1, rounds)?);
-    let tables = [repeated, by_turns, billed, billed_by_turns, previewed, previewed_by_turns];
+    let tables = [
+        repeated, by_turns, billed, billed_by_turns, previewed, previewed_by_turns, grounded, grounded_by_turns,
+    ];
     tables.iter().for_each(|table| println!("{}", table.line()));
     let slower: Vec<String> = tables.iter().flat_map(Table::slower).collect();
     slower.iter().for_each(|line| println!("{line}"));
@@ -58,7 +62,7 @@ fn program(rounds: usize) -> Result<bool, String> {
     }
     let good = slower.is_empty() && growing.is_empty();
     if good {
-        println!("no slower than the Rust on the four sorts in both tables, no cost grows, and no tariff or preview is too dear");
+        println!("no slower than the Rust on the four sorts in both tables, no cost grows, and no tariff, preview or ground is too dear");
     }
     Ok(good)
 }

@@ -68,6 +68,22 @@ impl Memories {
         }
     }
 
+    /// The library's run with the grounds of each step (document 02, W-206) over these memories.
+    #[inline(never)]
+    pub fn run_grounds(&mut self, sheet: &[u8], board: &mut [u8], answers: &mut [u8], grounds: &mut [u8]) -> Report {
+        let [ewram, iwram, io, palette, vram, oam, sram] = self.lengths;
+        // as above
+        unsafe {
+            bts_run_grounds(
+                sheet.as_ptr(), sheet.len(), board.as_mut_ptr(), board.len(),
+                self.store.as_mut_ptr(), self.store.len(), self.bios.as_ptr(), self.bios.len(),
+                self.rom.as_ptr(), self.rom.len(), answers.as_mut_ptr(), answers.len(),
+                grounds.as_mut_ptr(), grounds.len(),
+                ewram, iwram, io, palette, vram, oam, sram,
+            )
+        }
+    }
+
     /// The seven memories of the store, in its order.
     pub fn parts(&self) -> [&[u8]; 7] {
         parts_of(&self.store, self.lengths)

@@ -146,7 +146,7 @@ impl Table {
         rounds: usize,
     ) -> Result<Table, String> {
         let mut races: Vec<Race> = sorts.map(|sort| Race::new(sort, count, between)).collect();
-        let mut lent = Lent::new(between.shares_len);
+        let mut lent = Lent::new(between.second_len);
         for round in 0..rounds {
             for number in 0..count {
                 for race in &mut races {

@@ -1,5 +1,5 @@
 //! The sides whose times are compared, two at a time: the library and the Rust; a run of the library under a tariff and one
-//! without; the library's preview and its run.
+//! without; the library's preview and its run; a run of the library with the grounds of its prices and one without.
 
 use crate::bytes::*;
 use crate::memories::Memories;
@@ -19,14 +19,16 @@ const TARIFF_MOST_IDLE: f64 = 1.25;
 /// The most that a preview may cost of a run.
 const PREVIEW_MOST: f64 = 1.15;
 
+/// The most that a run with grounds may cost of one without: 32 bytes are written for every step, and every record is read again.
+const GROUNDS_MOST: f64 = 1.5;
+
 /// Cents per million cycles.
 const RATE: u32 = 307;
 
 /// The board that each run starts from.
 const FRESH: [u8; BOARD] = [0; BOARD];
 
-/// Fills answers and shares before a run, so that none is left there from the run before: an answer's last byte is 0, and so is a
-/// share's.
+/// Fills answers, and shares or grounds, before a run, so that none is left there from the run before: the last byte of each is 0.
 const NO_ANSWER: u8 = 0xA5;
 
 // ---- a run ----
@@ -37,8 +39,8 @@ pub struct Lent {
     pub sheet: Vec<u8>,
     pub board: Vec<u8>,
     pub answers: Vec<u8>,
-    /// Empty where no side has a tariff.
-    pub shares: Vec<u8>,
+    /// The shares of a tariff, or the grounds; empty where no side has either.
+    pub second: Vec<u8>,
 }
 
 /// What a run gave but for its memories.
@@ -49,12 +51,12 @@ pub struct Given {
 }
 
 impl Lent {
-    pub fn new(shares_len: usize) -> Lent {
+    pub fn new(second_len: usize) -> Lent {
         Lent {
             sheet: vec![0; HEADER + RECORD * sheets::RECORDS],
             board: vec![0; BOARD],
             answers: vec![0; ANSWER * sheets::RECORDS],
-            shares: vec![0; shares_len],
+            second: vec![0; second_len],
         }
     }
 
@@ -63,7 +65,7 @@ impl Lent {
         self.sheet.copy_from_slice(sheet);
         self.board.copy_from_slice(&FRESH);
         self.answers.fill(NO_ANSWER);
-        self.shares.fill(NO_ANSWER);
+        self.second.fill(NO_ANSWER);
         let (ns, report) = timed(|| side.run(self));
         side.check(self)?;
         let given = Given { report, board: self.board.clone(), answers: self.answers.clone() };
@@ -114,8 +116,8 @@ struct Billed {
 
 impl Side for Billed {
     fn run(&mut self, lent: &mut Lent) -> Report {
-        let Lent { sheet, board, answers, shares } = lent;
-        self.bill = self.memories.run_tariff(sheet, board, answers, shares, RATE);
+        let Lent { sheet, board, answers, second } = lent;
+        self.bill = self.memories.run_tariff(sheet, board, answers, second, RATE);
         Report { number: self.bill.number, index: self.bill.index, total: self.bill.total }
     }
 
@@ -127,7 +129,7 @@ impl Side for Billed {
     fn check(&self, lent: &Lent) -> Result<(), String> {
         let Bill { total, charge, .. } = self.bill;
         let (cost, paid) = (u128::from(total) * u128::from(RATE), u128::from(charge) * 1_000_000);
-        let shares = lent.shares.chunks_exact(SHARE).map(|share| u128::from(u64_at(share, 0)));
+        let shares = lent.second.chunks_exact(SHARE).map(|share| u128::from(u64_at(share, 0)));
         if cost <= paid && paid < cost + 1_000_000 && shares.sum::<u128>() == charge.into() {
             return Ok(());
         }
@@ -150,6 +152,33 @@ impl Side for Preview {
 
     fn parts(&self) -> Option<[&[u8]; 7]> {
         None
+    }
+}
+
+/// The library with the grounds of each step.
+struct Grounded(Memories);
+
+impl Side for Grounded {
+    fn run(&mut self, lent: &mut Lent) -> Report {
+        let Lent { sheet, board, answers, second } = lent;
+        self.0.run_grounds(sheet, board, answers, second)
+    }
+
+    fn parts(&self) -> Option<[&[u8]; 7]> {
+        Some(self.0.parts())
+    }
+
+    /// A step has a ground exactly where it is an access or an instruction, and no more than two.
+    fn check(&self, lent: &Lent) -> Result<(), String> {
+        let grounded: [bool; 1 + LATCH as usize] = std::array::from_fn(|kind| matches!(kind as u8, READ | WRITE | INSTRUCTION));
+        let kinds = lent.sheet[HEADER..].chunks_exact(RECORD).map(|record| usize::from(record[0]));
+        let good = |(kind, grounds): (usize, &[u8])| {
+            (grounds[0] != 0) == grounded[kind] && grounds[0] <= 9 && grounds[1] <= 9 && grounds[2..].iter().all(|&byte| byte == 0)
+        };
+        if kinds.zip(lent.second.chunks_exact(GROUNDS)).all(good) {
+            return Ok(());
+        }
+        Err("a step has grounds that it can't have".to_string())
     }
 }
 
@@ -188,7 +217,8 @@ pub struct Match {
     pub most: fn(&Sort) -> f64,
     /// What the first must give where the second gave this on a sheet.
     pub first_gives: fn(&[u8], Given) -> Given,
-    pub shares_len: usize,
+    /// The bytes a sheet of the buffer that the first is lent besides.
+    pub second_len: usize,
     /// Each with a copy of the memories, if it has any.
     pub sides: fn(&Memories) -> [Box<dyn Side>; 2],
 }
@@ -198,7 +228,7 @@ pub static LIBRARY_AND_RUST: Match = Match {
     other: "the Rust",
     most: |_| SAME,
     first_gives: |_, given| given,
-    shares_len: 0,
+    second_len: 0,
     sides: |memories| [Box::new(memories.clone()), Box::new(Machine::new(memories))],
 };
 
@@ -207,7 +237,7 @@ pub static TARIFF_AND_RUN: Match = Match {
     other: "bts_run",
     most: |sort| if sort.word == "idle" { TARIFF_MOST_IDLE } else { TARIFF_MOST },
     first_gives: |_, given| given,
-    shares_len: SHARE * sheets::RECORDS,
+    second_len: SHARE * sheets::RECORDS,
     sides: |memories| {
         let bill = Bill { number: 0, index: 0, total: 0, charge: 0 };
         [Box::new(Billed { memories: memories.clone(), bill }), Box::new(memories.clone())]
@@ -219,6 +249,15 @@ pub static PREVIEW_AND_RUN: Match = Match {
     other: "bts_run",
     most: |_| PREVIEW_MOST,
     first_gives: previewed,
-    shares_len: 0,
+    second_len: 0,
     sides: |memories| [Box::new(Preview), Box::new(memories.clone())],
+};
+
+pub static GROUNDS_AND_RUN: Match = Match {
+    names: ["grounds", "run"],
+    other: "bts_run",
+    most: |_| GROUNDS_MOST,
+    first_gives: |_, given| given,
+    second_len: GROUNDS * sheets::RECORDS,
+    sides: |memories| [Box::new(Grounded(memories.clone())), Box::new(memories.clone())],
 };

@@ -1,5 +1,5 @@
--- One accepted outcome, over bytes as lent: the program `bench`'s example, whose total is 31.
--- From document 01, "The program `bench`".
+-- One accepted outcome, over bytes as lent: the program `bench`'s example, whose total is 31, and its grounds.
+-- From document 01, "The program `bench`", and document 02, W-206.
 use mathlib.Core.Path.{_≡_, refl}
 use mathlib.Core.List.{List, [], _∷_, _++_}
 use Prim.Native.Nat.{ℕ}
@@ -9,7 +9,10 @@ use Rattle.model.specs.Sheet.{recordAt, recordsFrom, isaState, stepOf, sizeFits
 use Rattle.model.specs.BoardBytes.{boardLength, clockOf, contentsOf, boardBytes, freshBoard, soundBeat}
 use Rattle.model.specs.BoardBytes.{soundRow, isZero, soundPrefetch, soundPrevious, soundBytes, sound}
 use Rattle.model.specs.Outcome.{Lent, Outcome, sizesFit, verdict, ran, outcome}
+use Rattle.model.specs.Grounds.{halfGround, fetchGrounds, firstGround, dataGrounds, groundsAfter, beatBytes, Explaining}
+use Rattle.model.specs.Grounds.{groundsVerdict, runGrounds, explain}
 use Rattle.model.specs.Laws.Figures.{machine}
+use Rattle.model.specs.declared.Ground.the-variants.{BufferHit, EwramBus}
 
 -- the sheet: its header, and five records
 abbrev exampleSheet : List ℕ
@@ -60,3 +63,14 @@ unfolding machine recordAt recordsFrom accessSize isaState stepOf sizeFits kindF
     clockOf contentsOf boardBytes soundBeat soundRow isZero soundPrefetch soundPrevious soundBytes sound
     sizesFit verdict ran outcome
 bench-example = record { number = refl; index = refl; total = refl; answers = refl; store = refl }
+
+-- its grounds: of the opcode a hit, of the halfword from EWRAM ewram, of the others none
+abbrev explainedExample : Explaining
+explainedExample = record { run = example; grounds = replicate 160 0 }
+
+pub bench-grounds : (explain explainedExample) .grounds
+    ≡ beatBytes [] ++ (beatBytes [] ++ (beatBytes [] ++ (beatBytes (BufferHit ∷ []) ++ beatBytes (EwramBus ∷ []))))
+unfolding machine recordAt recordsFrom accessSize isaState stepOf sizeFits kindFault fieldFault firstOf
+    clockOf contentsOf boardBytes soundBeat soundRow isZero soundPrefetch soundPrevious soundBytes sound
+    sizesFit explain groundsVerdict runGrounds groundsAfter halfGround fetchGrounds firstGround dataGrounds
+bench-grounds = refl

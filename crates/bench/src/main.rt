@@ -1,10 +1,16 @@
 // bench: prices a sheet. It reads the sheet from standard input, runs it on a fresh board over zeroed memories without BIOS or
-// ROM, and writes a line for each record (index, cycles, value, hits, prefetch count, force flag) and the total, or the refusal.
-// A refusal, and input or output that fails, are told on standard error too. A program of Rattle has no exit status.
+// ROM, and writes a line for each record (index, cycles, value, hits, prefetch count, force flag, and then the grounds of its
+// price, a word a beat) and the total, or the refusal. A refusal, and input or output that fails, are told on standard error too.
+// A program of Rattle has no exit status.
+use grounds::names::beat_ground;
+use grounds::names::ground_name;
 use libc::STDERR_FILENO;
 use libc::STDIN_FILENO;
 use libc::STDOUT_FILENO;
 use model::ANSWER_LENGTH;
+use model::BeatGround;
+use model::GROUNDS_LENGTH;
+use model::Ground;
 use model::HEADER_LENGTH;
 use model::MAX_RECORDS;
 use model::RECORD_LENGTH;
@@ -32,8 +38,37 @@ fn say(words: &[u8]) {
     io::write_all(STDERR_FILENO, b"\n");
 }
 
+// The word of a ground, behind a space.
+fn print_name(ground: Ground) -> bool {
+    let name = ground_name(ground);
+    let letters = name.letters;
+    let n = name.length;
+    text(b" ") & text(&letters[..n])
+}
+
+fn print_ground(beat: BeatGround) -> bool {
+    match beat {
+        BeatGround::By(ground) => print_name(ground),
+        BeatGround::NoBeat => true,
+    }
+}
+
+// The grounds of record k.
+fn print_grounds(grounds: &[u8], k: usize) -> bool
+    requires { ⌜ k ≤ maxRecords ⌝ }
+{
+    let mut beat: usize = 0;
+    while beat < GROUNDS_LENGTH {
+        if !print_ground(beat_ground(le::byte_at(grounds, GROUNDS_LENGTH * k + beat))) {
+            return false;
+        }
+        beat += 1;
+    }
+    true
+}
+
 // The line of record k.
-fn print_answer(answers: &[u8], k: usize) -> bool
+fn print_answer(answers: &[u8], grounds: &[u8], k: usize) -> bool
     requires { ⌜ k ≤ maxRecords ⌝ }
 {
     let at = ANSWER_LENGTH * k;
@@ -43,15 +78,16 @@ fn print_answer(answers: &[u8], k: usize) -> bool
         & column(le::byte_at(answers, at + 8) as u64)
         & column(le::byte_at(answers, at + 9) as u64)
         & column(le::byte_at(answers, at + 10) as u64)
+        & print_grounds(grounds, k)
         & text(b"\n")
 }
 
-fn print_answers(answers: &[u8], n: usize) -> bool
+fn print_answers(answers: &[u8], grounds: &[u8], n: usize) -> bool
     requires { ⌜ n ≤ maxRecords ⌝ }
 {
     let mut k: usize = 0;
     while k < n {
-        if !print_answer(answers, k) {
+        if !print_answer(answers, grounds, k) {
             return false;
         }
         k += 1;
@@ -72,13 +108,15 @@ fn run_sheet(sheet: &[u8]) -> bool {
     let mut board = board::fresh();
     let mut store = [0u8; 61444];
     let mut answers = [0u8; ANSWER_LENGTH * MAX_RECORDS];
-    let r = bts::bts_run(
+    let mut grounds = [0u8; GROUNDS_LENGTH * MAX_RECORDS];
+    let r = bts::bts_run_grounds(
         sheet,
         &mut board,
         &mut store,
         b"",
         b"",
         &mut answers,
+        &mut grounds,
         16384,
         16384,
         2052,
@@ -91,7 +129,7 @@ fn run_sheet(sheet: &[u8]) -> bool {
         say(b"the sheet is refused");
         return print_refusal(r.number, r.index);
     }
-    print_answers(&answers, r.index as usize) & print_total(r.total)
+    print_answers(&answers, &grounds, r.index as usize) & print_total(r.total)
 }
 
 // Standard input has ended, and not failed: a read behind its end gives nothing.

@@ -1,8 +1,8 @@
 -- A beginning of a sheet: its first k records, run by themselves. The loop's contract and its invariant are about one, so that
 -- a run that stops early is no other claim than a run of the whole sheet.
 use mathlib.Core.Path.{_≡_, refl, sym, ap, ap₂, _∙_}
-use mathlib.Core.List.{List, [], _∷_, _++_, map, append-assoc, append-nil, map-append}
-use Prim.Native.Nat.{ℕ, zero, suc, _+_, _*_, _≤_, _<_}
+use mathlib.Core.List.{List, [], _∷_, _++_, map}
+use Prim.Native.Nat.{ℕ, suc, _+_, _*_, _≤_, _<_}
 use native.Mathlib.Omega.{arith}
 use lib.ListN.{length, drop, length-append, length-drop}
 use borrow.Rule.Slice.PartMut.{putMid}
@@ -13,9 +13,10 @@ use Rattle.model.specs.Sheet.{maxRecords, recordStart, recordAt, recordsFrom, s
 use Rattle.model.specs.BoardBytes.{answerLength, answerBytes, answersBytes}
 use Rattle.model.specs.Memory.{lengthsSum}
 use Rattle.model.specs.Laws.Sound.{SoundClock, clockAfter-sound}
-use Rattle.model.specs.Laws.Codec.{put-next}
+use Rattle.model.specs.Laws.Choice.{all-of}
+use Rattle.model.specs.Laws.Codec.{OfWidth, blocks-length, blocks-snoc, put-next}
 use Rattle.model.specs.Laws.Run.{run-snoc, run-length, run-store}
-use Rattle.model.specs.Laws.Limits.{records-length}
+use Rattle.model.specs.Laws.Limits.{records-length, steps-snoc}
 use Rattle.step.specs.Begun.{stateFrom, Runnable, Steps}
 use Rattle.step.specs.declared.Stepped.{Stepped}
 use Rattle.model.specs.declared.Clock.{Clock}
@@ -56,13 +57,6 @@ pub record Ends (m : Media) (s₀ : State) (sheet : List ℕ) (n : ℕ) (lent : 
 
 -- ---- one record more
 
-records-snoc : (sheet : List ℕ) (k n : ℕ) → recordsFrom sheet k (suc n) ≡ recordsFrom sheet k n ++ recordAt sheet (k + n) ∷ []
-unfolding recordsFrom
-records-snoc sheet k zero = ap (λ (j : ℕ). recordAt sheet j ∷ []) (omega arith)
-records-snoc sheet k (suc n) =
-    ap (λ (rs : List SheetRecord). recordAt sheet k ∷ rs)
-    (records-snoc sheet (k + 1) n ∙ ap (λ (j : ℕ). recordsFrom sheet (k + 1) n ++ recordAt sheet j ∷ []) (omega arith))
-
 -- the run of k + 1 records is that of k, and one step
 ran-further : (m : Media) (s : State) (sheet : List ℕ) (k : ℕ)
     → ranTo m s sheet (k + 1)
@@ -71,19 +65,7 @@ ran-further : (m : Media) (s : State) (sheet : List ℕ) (k : ℕ)
       state = stepped m ((ranTo m s sheet k) .state) (stepOf (recordAt sheet k));
     }
 ran-further m s sheet k =
-    let next : k + 1 ≡ suc k = omega arith in
-    let own : 0 + k ≡ k = omega arith in
-    ap (ranTo m s sheet) next
-    ∙ ap (λ (rs : List SheetRecord). run m s (map stepOf rs))
-    (records-snoc sheet 0 k ∙ ap (λ (j : ℕ). recordsFrom sheet 0 k ++ recordAt sheet j ∷ []) own)
-    ∙ ap (run m s) (map-append stepOf (recordsFrom sheet 0 k) (recordAt sheet k ∷ []))
-    ∙ run-snoc m s (map stepOf (recordsFrom sheet 0 k)) (stepOf (recordAt sheet k))
-
-answers-snoc : (xs : List Answer) (x : Answer) → answersBytes (xs ++ x ∷ []) ≡ answersBytes xs ++ answerBytes x
-answers-snoc [] x = append-nil (answerBytes x)
-answers-snoc (y ∷ xs) x =
-    ap (λ (t : List ℕ). answerBytes y ++ t) (answers-snoc xs x)
-    ∙ sym (append-assoc (answerBytes y) (answersBytes xs) (answerBytes x))
+    ap (run m s) (steps-snoc sheet k) ∙ run-snoc m s (map stepOf (recordsFrom sheet 0 k)) (stepOf (recordAt sheet k))
 
 cycles-snoc : (xs : List Answer) (x : Answer)
     → sum (map (λ (y : Answer). y .cycles) (xs ++ x ∷ [])) ≡ sum (map (λ (y : Answer). y .cycles) xs) + x .cycles
@@ -91,8 +73,8 @@ cycles-snoc [] x = omega arith
 cycles-snoc (y ∷ xs) x = omega (arith, cycles-snoc xs x)
 
 pub answers-size : (xs : List Answer) → length (answersBytes xs) ≡ answerLength * length xs
-answers-size [] = refl
-answers-size (x ∷ xs) = length-append (answerBytes x) (answersBytes xs) ∙ omega (arith, answers-size xs)
+answers-size xs =
+    blocks-length answerLength answerBytes xs (all-of (OfWidth answerLength answerBytes) (λ x. refl) xs)
 
 module _ (m : Media) (s₀ : State) (sheet lent : List ℕ) where
   -- the bytes of k answers
@@ -139,7 +121,7 @@ module _ (m : Media) (s₀ : State) (sheet lent : List ℕ) where
             (b .written) (b .state)
             ∙ put-next answerLength k (answersBytes (before .answers)) lent (answerBytes a) (done-size k)
             ∙ ap (λ (l : List ℕ). l ++ drop (answerLength * (k + 1)) lent)
-            (sym (answers-snoc (before .answers) a) ∙ ap answersBytes (sym (ap (λ (r : Result). r .answers) more)));
+            (sym (blocks-snoc answerBytes (before .answers) a) ∙ ap answersBytes (sym (ap (λ (r : Result). r .answers) more)));
         summed =
             es
             ∙ ap₂ (λ (n : ℕ) (u : State). n + (answer m u x) .cycles) (b .summed) (b .state)

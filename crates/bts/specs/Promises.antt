@@ -6,24 +6,28 @@ use mathlib.Core.Path.{_≡_, refl}
 use mathlib.Core.Logic.{_≢_}
 use mathlib.Core.Bool.{true}
 use Prim.Native.Nat.{ℕ, _*_, _≤_, _<_}
+use Rattle.model.specs.Base.{Exactly}
 use Rattle.model.specs.Sheet.{maxRecords, recordAt, recordCount, recordsOf, stepOf}
 use Rattle.model.specs.BoardBytes.{sound}
 use Rattle.model.specs.Outcome.{Lent, LentBytes, Outcome, verdict, outcomeBy, outcome}
 use Rattle.model.specs.Alike.{AlikeSheets, AlikeBoards, Limits, Accounts, Demand3}
 use Rattle.model.specs.Tariff.{Tariffed, Billed, tariffVerdict, billBy, bill, Bills, SameBill}
 use Rattle.model.specs.Preview.{Asked, Previewed, previewVerdict, previewAnswers, previewBy, preview, AsRun}
-use Rattle.model.specs.Laws.Rows.{Exactly}
+use Rattle.model.specs.Grounds.{Explaining, Explained, groundsVerdict, explainBy, explain, Explains, SameGrounds}
 use Rattle.model.specs.Laws.Refusal as refusal
 use Rattle.model.specs.Laws.Refusal.{Table, Index, Acceptable, Untouched}
 use Rattle.model.specs.Laws.Fits.{board-sound, total-fits}
 use Rattle.model.specs.Laws.Demand3 as demand
 use Rattle.model.specs.Laws.Told.{Told, told}
 use Rattle.model.specs.Laws.Billed as billed
-use Rattle.model.specs.Laws.Billed.{TariffTable, TariffAcceptable, RateAlone, Room, Fair, Unbilled}
+use Rattle.model.specs.Laws.Billed.{TariffTable, TariffAcceptable, RateAlone, SharesRoom, Fair, Unbilled}
 use Rattle.model.specs.Laws.Previewed as previewed
 use Rattle.model.specs.Laws.Previewed.{PreviewTable, Unwritten}
-use Rattle.examine.specs.Verdicts.{ready, index-small, tariff-index-small, preview-index-small}
+use Rattle.model.specs.Laws.Explained as explained
+use Rattle.model.specs.Laws.Explained.{GroundsTable, GroundsAcceptable, GroundsRoom, Untold}
+use Rattle.examine.specs.Verdicts.{ready, index-small, tariff-index-small, grounds-index-small, preview-index-small}
 use Rattle.bts.specs.Reported.{run-accepts, bare-ready}
+use Rattle.bts.specs.Explained.{explained-accepts}
 use Rattle.model.specs.declared.AccessSize.{AccessSize}
 use Rattle.model.specs.declared.Step.the-variants.{Write}
 use Rattle.model.specs.declared.Verdict.{Verdict}
@@ -120,7 +124,7 @@ module _ (t : Tariffed) (b : Billed) (call : b ≡ bill t) where
   tariff-refuses = rw call (billed.refused-unbilled t)
 
   -- with room for the shares and a fair rate it is the run's outcome, refused or not; so all that is promised of it holds here
-  pub whole-run : Room t → Fair (t .rate) → b .run ≡ outcome (t .run)
+  pub whole-run : SharesRoom t → Fair (t .rate) → b .run ≡ outcome (t .run)
   whole-run = rw call (billed.whole-run t)
 
   -- an accepted run by itself: its charge, its shares and their sum
@@ -133,6 +137,49 @@ pub same-bills : (t u : Tariffed) (a b : Billed) → a ≡ bill t → b ≡ bill
     → t .rate ≡ u .rate → AlikeSheets (t .run .sheet) (u .run .sheet) → AlikeBoards (t .run .board) (u .run .board)
     → SameBill t u a b
 same-bills = billed.same-bill
+
+-- ---- W-206: the run with the grounds of its prices
+
+module _ (e : Explaining) (x : Explained) (call : x ≡ explain e) where
+  -- demand 1: each number exactly when its row of the table holds and no earlier one does; none but the run's seven
+  pub grounds-table : GroundsTable e x
+  grounds-table = rw call (explained.grounds-table e)
+
+  pub grounds-refusals : x .run .number ≤ 7
+  grounds-refusals = rw call (explained.seven-refusals e)
+
+  -- number 0 exactly when the run's conditions hold and there is room for the grounds
+  pub grounds-accepts : Exactly (x .run .number ≡ 0) (GroundsAcceptable e)
+  grounds-accepts = rw call (explained.grounds-zero e)
+
+  pub grounds-index : Index (e .run .sheet) (x .run .number) (x .run .index)
+  grounds-index = rw call (explained.grounds-index e)
+
+  pub grounds-few-records : x .run .index ≤ maxRecords
+  unfolding explain
+  grounds-few-records = rw call (by-verdict (groundsVerdict e) refl)
+    where
+      by-verdict : (v : Verdict) → groundsVerdict e ≡ v → (explainBy e v) .run .index ≤ maxRecords
+      by-verdict Accepted a = (ready (e .run) (explained-accepts e a)) .shaped .few
+      by-verdict (Refused r) a = grounds-index-small e r a
+
+  -- a refusal gives total 0 and changes no byte, those of the grounds among them
+  pub grounds-refuses : x .run .number ≢ 0 → Untold e x
+  grounds-refuses = rw call (explained.refused-untold e)
+
+  -- with room for the grounds it is the run's outcome, refused or not; so all that is promised of it holds here
+  pub grounds-whole-run : GroundsRoom e → x .run ≡ outcome (e .run)
+  grounds-whole-run = rw call (explained.whole-run e)
+
+  -- an accepted run by itself: the grounds of each step, that they make its cycles, and when each is named
+  pub explains : x .run .number ≡ 0 → Explains e x
+  explains = explained.explains e x call
+
+-- demand 3's sentence for the grounds: any two accepted calls with alike sheets and boards have the same ones, whatever memories
+-- they are lent
+pub same-grounds : (e f : Explaining) (x y : Explained) → x ≡ explain e → y ≡ explain f → x .run .number ≡ 0 → y .run .number ≡ 0
+    → AlikeSheets (e .run .sheet) (f .run .sheet) → AlikeBoards (e .run .board) (f .run .board) → SameGrounds e f x y
+same-grounds = explained.same-explained
 
 -- ---- W-205: the price before running
 

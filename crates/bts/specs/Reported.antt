@@ -69,7 +69,7 @@ module _ (i : Lent) (n : ℕ) (c : Clock) (h : List ℕ) (d : Contents) (en : n 
       (rw (e .all, en, ec, eh, ed) at (e .beginning)) eb refl en
 
 -- its answers stand
-answers-long : (i : Lent) {r : Report} {board store answers : List ℕ} → reported r board store answers ≡ outcomeBy i Accepted
+pub answers-long : (i : Lent) {r : Report} {board store answers : List ℕ} → reported r board store answers ≡ outcomeBy i Accepted
     → answerLength * recordCount (i .sheet) ≤ length answers
 answers-long i ran-is =
     let xs : List Answer = (ran i) .answers in
@@ -82,7 +82,7 @@ answers-long i ran-is =
     )
 
 -- a report of a refusal, with the buffers as they were lent, is the refused outcome
-refused-by : (i : Lent) (q : Refusal) (r : Report) → r .number ≡ refusalNumber q → r .index ≡ refusalIndex q → r .total ≡ 0
+pub refused-by : (i : Lent) (q : Refusal) (r : Report) → r .number ≡ refusalNumber q → r .index ≡ refusalIndex q → r .total ≡ 0
     → reported r (i .board) (i .store) (i .answers) ≡ outcomeBy i (Refused q)
 refused-by i q r n k t x =
     record { number = n x; index = k x; total = t x; board = i .board; store = i .store; answers = i .answers }
@@ -115,6 +115,19 @@ refused-bill t q r e n k z c = same ∙ sym (ap (billBy t) e)
     same x = record { run = refused-by (t .run) q (reportOf r) n k z x; charge = c x; shares = t .shares }
 
 -- an accepted run, of which `r` was reported
+module _ (i : Lent) (yes : verdict i ≡ Accepted) {r : Report} {board store answers : List ℕ}
+    (ran-is : reported r board store answers ≡ outcomeBy i Accepted) where
+  -- it is the run's outcome
+  pub outcome-is : reported r board store answers ≡ outcome i
+  unfolding outcome
+  outcome-is = ran-is ∙ sym (ap (outcomeBy i) yes)
+
+  pub no-refusal : r .number ≡ 0
+  no-refusal = ap (λ (o : Outcome). o .number) ran-is
+
+  pub all-records : r .index ≡ recordCount (i .sheet)
+  all-records = ap (λ (o : Outcome). o .index) ran-is
+
 module _ (t : Tariffed) (yes : tariffVerdict t ≡ Accepted) where
   asked : TariffAcceptable t
   asked = tariff-accepted t yes
@@ -125,37 +138,32 @@ module _ (t : Tariffed) (yes : tariffVerdict t ≡ Accepted) where
 
   module _ {r : Report} {board store answers : List ℕ}
       (ran-is : reported r board store answers ≡ outcomeBy (t .run) Accepted) where
-    -- it is the run's outcome
-    outcome-is : reported r board store answers ≡ outcome (t .run)
-    unfolding outcome
-    outcome-is = ran-is ∙ sym (ap (outcomeBy (t .run)) run-accepts)
+    abbrev outcome-here : reported r board store answers ≡ outcome (t .run)
+    outcome-here = outcome-is (t .run) run-accepts ran-is
 
-    no-refusal : r .number ≡ 0
-    no-refusal = ap (λ (o : Outcome). o .number) ran-is
-
-    all-records : r .index ≡ recordCount (t .run .sheet)
-    all-records = ap (λ (o : Outcome). o .index) ran-is
+    abbrev records-here : r .index ≡ recordCount (t .run .sheet)
+    records-here = all-records (t .run) run-accepts ran-is
 
     module _ (lent : LentBytes (t .run)) where
       -- the cycles that stand in its answers are the run's
       cycles-are : cyclesFrom answers 0 (r .index) ≡ cyclesOf (ran (t .run))
       cycles-are =
-          ap (cyclesFrom answers 0) all-records
-          ∙ cycles-there (t .run) (reported r board store answers) outcome-is no-refusal lent
+          ap (cyclesFrom answers 0) records-here
+          ∙ cycles-there (t .run) (reported r board store answers) outcome-here (no-refusal (t .run) run-accepts ran-is) lent
 
       pub payable : Payable (t .rate) (r .total)
       payable =
           record {
             most = asked .rate .most;
-            few = rw (← outcome-is) at (total-fits (t .run) lent (sym (ap (λ (o : Outcome). o .number) outcome-is) ∙ no-refusal));
+            few = rw (← outcome-here) at (total-fits (t .run) lent (sym (ap (λ (o : Outcome). o .number) outcome-here) ∙ no-refusal (t .run) run-accepts ran-is));
           }
 
       pub billable : Billable (r .index) (r .total) (t .rate) answers (t .shares)
       billable =
           record {
-            few = omega (arith, all-records, (ready (t .run) run-accepts) .shaped .few);
-            answered = omega (arith, all-records, answers-long (t .run) ran-is);
-            room = omega (arith, all-records, asked .all .room .shares);
+            few = omega (arith, records-here, (ready (t .run) run-accepts) .shaped .few);
+            answered = omega (arith, records-here, answers-long (t .run) ran-is);
+            room = omega (arith, records-here, asked .all .room .fits);
             summed = ap (λ (o : Outcome). o .total) ran-is ∙ sym (ap sum cycles-are);
             payable = payable;
           }
@@ -169,7 +177,7 @@ module _ (t : Tariffed) (yes : tariffVerdict t ≡ Accepted) where
           record {
             run = ran-is x;
             charge = (e ∙ ap (λ (o : Outcome). charge (t .rate) (o .total)) ran-is) x;
-            shares = (w ∙ ap₂ (sharesIn (t .shares) (t .rate)) cycles-are all-records) x;
+            shares = (w ∙ ap₂ (sharesIn (t .shares) (t .rate)) cycles-are records-here) x;
           }
 
 -- ---- a preview

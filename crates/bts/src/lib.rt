@@ -1,7 +1,9 @@
 // The run of a sheet over a lent board and lent memories, exported to C as `bts_run`, the same under a tariff, exported as
-// `bts_run_tariff`, and the price of a sheet before it is run, exported as `bts_preview`. include/bts.h documents them for C.
+// `bts_run_tariff`, and with the grounds of its prices, exported as `bts_run_grounds`, and the price of a sheet before it is run,
+// exported as `bts_preview`. include/bts.h documents them for C.
 mod run;
 
+use examine::examine_grounds;
 use examine::examine_tariff;
 use model::BOARD_LENGTH;
 use model::Lengths;
@@ -12,8 +14,10 @@ ghost use Rattle.model.specs.Outcome.{verdict, outcomeBy, outcome};
 ghost use Rattle.model.specs.declared.Verdict.the-variants.{Accepted};
 ghost use Rattle.model.specs.Tariff.{tariffVerdict, billBy, bill};
 ghost use Rattle.model.specs.Preview.{previewVerdict, previewBy, preview};
-ghost use Rattle.examine.specs.Lent.{lending, tariffing, asking};
+ghost use Rattle.model.specs.Grounds.{groundsVerdict, explainBy, explain};
+ghost use Rattle.examine.specs.Lent.{lending, tariffing, asking, explaining};
 ghost use Rattle.bts.specs.Reported.{reported, reportedBill, reportedPreview};
+ghost use Rattle.bts.specs.Explained.{reportedGrounds};
 
 // What a run gives back: 0, the number of records and the total; or the refusal's number and index, and 0.
 #[repr(C)]
@@ -234,6 +238,99 @@ pub extern "C" fn bts_run_tariff(
         lengths,
         rate,
     )
+}
+
+// The same with the grounds of each step's price: the run, and then the grounds, from the clock that it began with and its answers.
+fn explain_accepted(
+    sheet: &[u8],
+    board: &mut [u8],
+    store: &mut [u8],
+    bios: &[u8],
+    rom: &[u8],
+    answers: &mut [u8],
+    grounds: &mut [u8],
+    lengths: Lengths,
+) -> Report
+    requires { ⌜ groundsVerdict (explaining (lending (now sheet) (now board) (now store) (now bios) (now rom) (now answers) lengths)
+        (now grounds)) ≡ Accepted ⌝ }
+    ensures { λ r. ⌜ reportedGrounds r (now (board .exit)) (now (store .exit)) (now (answers .exit)) (now (grounds .exit))
+        ≡ explainBy (explaining (lending (now (sheet .entry)) (now (board .entry)) (now (store .entry)) (now (bios .entry))
+        (now (rom .entry)) (now (answers .entry)) lengths) (now (grounds .entry))) Accepted ⌝ }
+{
+    let clock = board::load_clock(board);
+    let report = run_accepted(sheet, board, store, bios, rom, answers, lengths);
+    grounds::put_grounds(sheet, report.index as usize, clock, answers, grounds);
+    report
+}
+
+// The same from the examination on: an accepted sheet is run and its grounds are told, a refused one is told.
+fn explain_examined(
+    sheet: &[u8],
+    board: &mut [u8],
+    store: &mut [u8],
+    bios: &[u8],
+    rom: &[u8],
+    answers: &mut [u8],
+    grounds: &mut [u8],
+    lengths: Lengths,
+) -> Report
+    ensures { λ r. ⌜ reportedGrounds r (now (board .exit)) (now (store .exit)) (now (answers .exit)) (now (grounds .exit))
+        ≡ explain (explaining (lending (now (sheet .entry)) (now (board .entry)) (now (store .entry)) (now (bios .entry))
+        (now (rom .entry)) (now (answers .entry)) lengths) (now (grounds .entry))) ⌝ }
+{
+    let verdict = examine_grounds(sheet, board, store, bios, rom, answers, grounds, lengths);
+    match verdict {
+        Verdict::Accepted => explain_accepted(
+            sheet,
+            board,
+            store,
+            bios,
+            rom,
+            answers,
+            grounds,
+            lengths,
+        ),
+        Verdict::Refused(refusal) => Report {
+            number: examine::refusal_number(refusal),
+            index: examine::refusal_index(refusal) as u32,
+            total: 0,
+        },
+    }
+}
+
+#[no_mangle]
+pub extern "C" fn bts_run_grounds(
+    sheet: &[u8],
+    board: &mut [u8],
+    store: &mut [u8],
+    bios: &[u8],
+    rom: &[u8],
+    answers: &mut [u8],
+    grounds: &mut [u8],
+    ewram: usize,
+    iwram: usize,
+    io: usize,
+    palette: usize,
+    vram: usize,
+    oam: usize,
+    sram: usize,
+) -> Report
+    ensures { λ r. ⌜ reportedGrounds r (now (board .exit)) (now (store .exit)) (now (answers .exit)) (now (grounds .exit))
+        ≡ explain (explaining (lending (now (sheet .entry)) (now (board .entry)) (now (store .entry)) (now (bios .entry))
+        (now (rom .entry)) (now (answers .entry))
+        (record { ewram = ewram; iwram = iwram; io = io; palette = palette; vram = vram; oam = oam; sram = sram }))
+        (now (grounds .entry))) ⌝ }
+{
+    let lengths = Lengths {
+        ewram,
+        iwram,
+        io,
+        palette,
+        vram,
+        oam,
+        sram,
+    };
+    explain_examined(sheet, board, store, bios, rom, answers, grounds, lengths)
 }
 
 // The price of an accepted sheet: a run over no memories on a copy of the board, of whose values only those stay that the clock

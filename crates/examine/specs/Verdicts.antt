@@ -16,7 +16,8 @@ use Rattle.model.specs.Outcome.{Lent, Row, row, byRow, firstRow, sheetRows, len
 use Rattle.model.specs.Outcome.{roomRows, faultIndex, recordsRows}
 use Rattle.model.specs.Outcome.{sizesFit, verdict, refusalIndex, Outcome, outcomeBy, outcome}
 use Rattle.model.specs.Laws.Places.{sizesSmall, Sized, small-sized}
-use Rattle.model.specs.Tariff.{Tariffed, Billed, sharesRows, rateRows, tariffVerdict, billBy, bill}
+use Rattle.model.specs.Tariff.{Tariffed, Billed, tariffVerdict, billBy, bill}
+use Rattle.model.specs.Grounds.{Explaining, Explained, groundsVerdict, explainBy, explain}
 use Rattle.model.specs.Preview.{Asked, noMemories, lentWith, previewVerdict}
 use Rattle.model.specs.Laws.Choice.{parts, or-true-right, or-false}
 use Rattle.model.specs.Laws.Sound.{SoundClock}
@@ -26,6 +27,7 @@ use Rattle.model.specs.Laws.Refusal.{NoFault, FirstFault, Acceptable, accepted-
 use Rattle.model.specs.Laws.Fits.{sound-clock}
 use Rattle.model.specs.Laws.Billed.{tariff-table, tariff-index}
 use Rattle.model.specs.Laws.Previewed.{bare-verdict}
+use Rattle.model.specs.Laws.Explained.{grounds-table, grounds-index}
 use Rattle.model.specs.declared.Lengths.{Lengths}
 use Rattle.model.specs.declared.Refusal.{Refusal}
 use Rattle.model.specs.declared.Refusal.the-variants.{BadMark, BadVersion, BadShape, BadLengths}
@@ -59,12 +61,10 @@ restRows sheet answers = answersRows (recordCount sheet) answers ++ recordsRows 
 abbrev pub fromAnswers : Lent → List Row
 fromAnswers i = restRows (i .sheet) (length (i .answers))
 
--- of the tariff's
-abbrev pub fromRecords : Tariffed → List Row
-fromRecords t = recordsRows (t .run .sheet) ++ rateRows (t .rate)
-
-abbrev pub fromRoom : Tariffed → List Row
-fromRoom t = sharesRows t ++ fromRecords t
+-- of that of a run with a second buffer
+abbrev pub fromRoom : Lent → ℕ → ℕ → List Row
+fromRoom i each second =
+    roomRows (recordCount (i .sheet)) (length (i .answers)) each second ++ recordsRows (i .sheet)
 
 -- ---- the row of the room
 
@@ -190,6 +190,15 @@ tariff-index-small t r e =
     let seven : (bill t) .run .number ≡ 7 = ap (λ (x : Billed). x .run .number) o in
     rw (ap (λ (x : Billed). x .run .index) o)
     at (few-faulty (t .run .sheet) _ _ (tariff-index t) (((tariff-table t) .row 6 (lit< tt) .0 seven) .1 .1 .0) seven)
+
+pub grounds-index-small : (e : Explaining) (r : Refusal) → groundsVerdict e ≡ Refused r → refusalIndex r ≤ maxRecords
+unfolding explain
+grounds-index-small e r v =
+    small-index r λ k z.
+    let o : explain e ≡ explainBy e (Refused (FaultyRecord k)) = ap (explainBy e) (v ∙ ap (λ (q : Refusal). Refused q) z) in
+    let seven : (explain e) .run .number ≡ 7 = ap (λ (x : Explained). x .run .number) o in
+    rw (ap (λ (x : Explained). x .run .index) o)
+    at (few-faulty (e .run .sheet) _ _ (grounds-index e) (((grounds-table e) .row 6 (lit< tt) .0 seven) .1 .1 .0) seven)
 
 -- a preview's is that of a run over no memories
 pub preview-index-small : (q : Asked) (r : Refusal) → previewVerdict q ≡ Refused r → refusalIndex r ≤ maxRecords

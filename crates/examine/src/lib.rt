@@ -1,6 +1,7 @@
 // What is examined before a run or a preview: the refusals, in the order of document 01's table, and the tariff's. Nothing is
 // written here.
 use model::ANSWER_LENGTH;
+use model::GROUNDS_LENGTH;
 use model::Lengths;
 use model::MAX_RATE;
 use model::Refusal;
@@ -15,8 +16,9 @@ ghost use Rattle.model.specs.Sheet.{maxRecords};
 ghost use Rattle.model.specs.Outcome as def;
 ghost use Rattle.model.specs.Tariff as tariff;
 ghost use Rattle.model.specs.Preview as preview;
+ghost use Rattle.model.specs.Grounds as reasons;
 ghost use Rattle.model.specs.Laws.Rows.{orElse};
-ghost use Rattle.examine.specs.Lent.{lending, tariffing, asking};
+ghost use Rattle.examine.specs.Lent.{lending, tariffing, asking, explaining};
 ghost use Rattle.examine.specs.Verdicts.{Shaped, RoomAsked, Examined, restRows};
 
 // No memory is longer than its physical size, and the seven add up to the store. Each is tested before they are added, so
@@ -210,6 +212,34 @@ fn or_else(first: Verdict, second: Verdict) -> Verdict
     }
 }
 
+// The first row of the table of a run with a second buffer, which has `each` bytes a record.
+fn examine_second(
+    sheet: &[u8],
+    board: &[u8],
+    store: &[u8],
+    bios: &[u8],
+    rom: &[u8],
+    answers: &[u8],
+    lengths: Lengths,
+    each: usize,
+    second: usize,
+) -> Verdict
+    requires { ⌜ each ≤ 0xFFFF ⌝ }
+    ensures { λ r. ⌜ r ≡ def.firstRow (def.secondRows (lending (now (sheet .entry)) (now (board .entry)) (now (store .entry))
+        (now (bios .entry)) (now (rom .entry)) (now (answers .entry)) lengths) each second) ⌝ }
+{
+    let lent = examine_lent(sheet, board, lengths, store.len(), bios.len(), rom.len());
+    let Verdict::Accepted = lent else {
+        return lent;
+    };
+    let n = sheet::record_count(sheet);
+    let room = examine_room(n, answers.len(), each, second);
+    let Verdict::Accepted = room else {
+        return room;
+    };
+    examine_records(sheet)
+}
+
 // The first row of the tariff's table that holds: the run's, with room for the shares, and then the rate.
 pub fn examine_tariff(
     sheet: &[u8],
@@ -225,18 +255,48 @@ pub fn examine_tariff(
     ensures { λ r. ⌜ r ≡ tariff.tariffVerdict (tariffing (lending (now (sheet .entry)) (now (board .entry)) (now (store .entry))
         (now (bios .entry)) (now (rom .entry)) (now (answers .entry)) lengths) (now (shares .entry)) rate) ⌝ }
 {
-    let lent = examine_lent(sheet, board, lengths, store.len(), bios.len(), rom.len());
-    let Verdict::Accepted = lent else {
-        return lent;
-    };
-    let n = sheet::record_count(sheet);
-    let room = examine_room(n, answers.len(), SHARE_LENGTH, shares.len());
-    let Verdict::Accepted = room else {
-        return room;
-    };
-    let records = examine_records(sheet);
+    let room = shares.len();
+    let run = examine_second(
+        sheet,
+        board,
+        store,
+        bios,
+        rom,
+        answers,
+        lengths,
+        SHARE_LENGTH,
+        room,
+    );
     let fair = examine_rate(rate);
-    or_else(records, fair)
+    or_else(run, fair)
+}
+
+// The first row of the table of a run with grounds that holds: the run's, with room for the grounds.
+pub fn examine_grounds(
+    sheet: &[u8],
+    board: &[u8],
+    store: &[u8],
+    bios: &[u8],
+    rom: &[u8],
+    answers: &[u8],
+    grounds: &[u8],
+    lengths: Lengths,
+) -> Verdict
+    ensures { λ r. ⌜ r ≡ reasons.groundsVerdict (explaining (lending (now (sheet .entry)) (now (board .entry)) (now (store .entry))
+        (now (bios .entry)) (now (rom .entry)) (now (answers .entry)) lengths) (now (grounds .entry))) ⌝ }
+{
+    let room = grounds.len();
+    examine_second(
+        sheet,
+        board,
+        store,
+        bios,
+        rom,
+        answers,
+        lengths,
+        GROUNDS_LENGTH,
+        room,
+    )
 }
 
 // The documents' number of a refusal.

@@ -21,6 +21,10 @@ same true false = false
 same false true = false
 same false false = true
 
+-- a claim that holds where another does, and nowhere else
+abbrev pub Exactly : Type 0 → Type 0 → Type 0
+Exactly P Q = (P → Q) × (Q → P)
+
 abbrev pub sum : List ℕ → ℕ
 sum [] = 0
 sum (x ∷ xs) = x + sum xs
@@ -59,6 +63,11 @@ number (suc n) b i = byteAt b i + 256 * number n b (i + 1)
 abbrev pub numbersFrom : ℕ → List ℕ → ℕ → ℕ → List ℕ
 numbersFrom w b i zero = []
 numbersFrom w b i (suc n) = number w b i ∷ numbersFrom w b (i + w) n
+
+-- the bytes of things, one behind the other
+abbrev pub blocks : {A : Type 0} → (A → List ℕ) → List A → List ℕ
+blocks f [] = []
+blocks f (x ∷ xs) = f x ++ blocks f xs
 
 -- a list of bytes: what a lent slice of u8 is
 abbrev pub AllBytes : List ℕ → Type 0

@@ -6,7 +6,7 @@ use mathlib.Core.List.{List, [], _∷_, _++_}
 use Prim.Native.Nat.{ℕ, _+_, _-_, _*_, _/_, _%_}
 use lib.ListN.{length, replicate}
 use lib.Dec.{eqb, leb}
-use Rattle.model.specs.Base.{if_then_else_, bit, same, byteAt, number, numbersFrom, Field, field, encoded, numbersBytes}
+use Rattle.model.specs.Base.{if_then_else_, bit, same, byteAt, number, numbersFrom, Field, field, encoded, numbersBytes, blocks}
 use Rattle.model.specs.Waitcnt.{prefetchEnable}
 use Rattle.model.specs.Wait.{inWindow}
 use Rattle.model.specs.Prefetch.{newBuffer}
@@ -180,5 +180,4 @@ abbrev pub answerBytes : Answer → List ℕ
 answerBytes x = encoded (answerFields x)
 
 abbrev pub answersBytes : List Answer → List ℕ
-answersBytes [] = []
-answersBytes (x ∷ xs) = answerBytes x ++ answersBytes xs
+answersBytes xs = blocks answerBytes xs

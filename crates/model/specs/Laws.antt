@@ -26,9 +26,12 @@ pub mod Values
 pub mod Limits
 pub mod Rows
 pub mod Refusal
+pub mod Second
 pub mod Fits
 pub mod Demand3
 pub mod Told
 pub mod Charge
 pub mod Billed
 pub mod Previewed
+pub mod Grounds
+pub mod Explained

@@ -19,4 +19,5 @@ pub mod Outcome
 pub mod Alike
 pub mod Tariff
 pub mod Preview
+pub mod Grounds
 pub mod Laws

@@ -89,7 +89,7 @@ boardRows b = row (not (sound b)) UnsoundBoard ∷ []
 abbrev pub answersRows : ℕ → ℕ → List Row
 answersRows n answers = row (ltb answers (answerLength * n)) ShortAnswers ∷ []
 
--- the same with a second buffer, which has `each` bytes a record
+-- answers or a second buffer, which has `each` bytes a record, too short
 abbrev pub roomRows : ℕ → ℕ → ℕ → ℕ → List Row
 roomRows n answers each second = row (ltb answers (answerLength * n) || ltb second (each * n)) ShortAnswers ∷ []
 
@@ -110,6 +110,11 @@ lentRows i =
 -- in the table's order
 abbrev pub rows : Lent → List Row
 rows i = lentRows i ++ (answersRows (recordCount (i .sheet)) (length (i .answers)) ++ recordsRows (i .sheet))
+
+-- the same with room for a second buffer, which has `each` bytes a record
+abbrev pub secondRows : Lent → ℕ → ℕ → List Row
+secondRows i each second =
+    lentRows i ++ (roomRows (recordCount (i .sheet)) (length (i .answers)) each second ++ recordsRows (i .sheet))
 
 unfoldable pub verdict : Lent → Verdict
 verdict i = firstRow (rows i)

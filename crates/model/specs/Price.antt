@@ -81,7 +81,7 @@ firstKind p z a = kindAt (aligned z a) (kindAfter p (aligned z a))
 -- ---- the beats of a data access
 
 -- a word takes two beats on a bus of 16 bits
-abbrev pub wide : AccessSize → Beat → Beat → List Beat
+abbrev pub wide : {A : Type 0} → AccessSize → A → A → List A
 wide Byte first second = first ∷ []
 wide Half first second = first ∷ []
 wide Word first second = first ∷ second ∷ []
@@ -90,21 +90,40 @@ wide Word first second = first ∷ second ∷ []
 abbrev pub romAccess : AccessSize → AccessKind → RomWindow → List Beat
 romAccess z k win = wide z (RomBeat win k) (RomBeat win Seq)
 
--- by the region of the address; SRAM has so many waits, and in ROM the first beat is of kind `k`
+-- the bus that an access goes over: EWRAM's, that of palette and VRAM, ROM's through a window, SRAM's, or one without waits
+pub data Bus : Type 0 where
+  OnEwram : Bus
+  OnVideo : Bus
+  OnRom : RomWindow → Bus
+  OnSram : Bus
+  OnFast : Bus
+
+-- by the region of the address
+abbrev pub busOf : Region → Bus
+busOf Bios = OnFast
+busOf UnusedLow = OnFast
+busOf Ewram = OnEwram
+busOf Iwram = OnFast
+busOf Io = OnFast
+busOf Palette = OnVideo
+busOf Vram = OnVideo
+busOf Oam = OnFast
+busOf GamePakRomWs0 = OnRom Ws0
+busOf GamePakRomWs1 = OnRom Ws1
+busOf GamePakRomWs2 = OnRom Ws2
+busOf GamePakSram = OnSram
+busOf UnusedHigh = OnFast
+
+-- SRAM has so many waits, and in ROM the first beat is of kind `k`
+abbrev pub dataBeatsOn : ℕ → AccessSize → AccessKind → Bus → List Beat
+dataBeatsOn sram z k OnEwram = wide z (EwramBeat Half) (EwramBeat Half)
+dataBeatsOn sram z k OnVideo = wide z VideoBeat VideoBeat
+dataBeatsOn sram z k (OnRom win) = romAccess z k win
+dataBeatsOn sram z k OnSram = SramBeat sram ∷ []
+dataBeatsOn sram z k OnFast = FastBeat ∷ []
+
 abbrev pub dataBeatsIn : ℕ → AccessSize → AccessKind → Region → List Beat
-dataBeatsIn sram z k Bios = FastBeat ∷ []
-dataBeatsIn sram z k UnusedLow = FastBeat ∷ []
-dataBeatsIn sram z k Ewram = wide z (EwramBeat Half) (EwramBeat Half)
-dataBeatsIn sram z k Iwram = FastBeat ∷ []
-dataBeatsIn sram z k Io = FastBeat ∷ []
-dataBeatsIn sram z k Palette = wide z VideoBeat VideoBeat
-dataBeatsIn sram z k Vram = wide z VideoBeat VideoBeat
-dataBeatsIn sram z k Oam = FastBeat ∷ []
-dataBeatsIn sram z k GamePakRomWs0 = romAccess z k Ws0
-dataBeatsIn sram z k GamePakRomWs1 = romAccess z k Ws1
-dataBeatsIn sram z k GamePakRomWs2 = romAccess z k Ws2
-dataBeatsIn sram z k GamePakSram = SramBeat sram ∷ []
-dataBeatsIn sram z k UnusedHigh = FastBeat ∷ []
+dataBeatsIn sram z k r = dataBeatsOn sram z k (busOf r)
 
 -- under WAITCNT `w`, after the access `p`
 unfoldable pub dataBeats : ℕ → Previous → AccessSize → ℕ → List Beat

@@ -10,8 +10,7 @@ use lib.Dec.{eqb, ltb}
 use Rattle.model.specs.Base.{sum, byteAt, number, numbersFrom, numbersBytes}
 use Rattle.model.specs.Step.{cyclesOf, total}
 use Rattle.model.specs.Sheet.{recordCount}
-use Rattle.model.specs.Outcome.{Lent, LentBytes, Outcome, Row, row, firstRow, lentRows, roomRows, recordsRows}
-use Rattle.model.specs.Outcome.{ran, outcomeBy, outcome}
+use Rattle.model.specs.Outcome.{Lent, LentBytes, Outcome, Row, row, firstRow, secondRows, ran, outcomeBy, outcome}
 use Rattle.model.specs.Alike.{answerStart, cyclesFrom, Demand3}
 use Rattle.model.specs.declared.Refusal.the-variants.{BadRate}
 use Rattle.model.specs.declared.Verdict.{Verdict}
@@ -70,17 +69,13 @@ pub record Billed : Type 0 where
   pub charge : ℕ
   pub shares : List ℕ
 
--- answers or shares too short
-abbrev pub sharesRows : Tariffed → List Row
-sharesRows t = roomRows (recordCount (t .run .sheet)) (length (t .run .answers)) shareLength (length (t .shares))
-
 -- a rate of 0 or above 1,000,000
 abbrev pub rateRows : ℕ → List Row
 rateRows rate = row (eqb rate 0 || ltb maxRate rate) BadRate ∷ []
 
 -- the run's table, with room for the shares, and one row more
 abbrev pub tariffRows : Tariffed → List Row
-tariffRows t = lentRows (t .run) ++ (sharesRows t ++ (recordsRows (t .run .sheet) ++ rateRows (t .rate)))
+tariffRows t = secondRows (t .run) shareLength (length (t .shares)) ++ rateRows (t .rate)
 
 unfoldable pub tariffVerdict : Tariffed → Verdict
 tariffVerdict t = firstRow (tariffRows t)

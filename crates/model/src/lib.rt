@@ -142,6 +142,9 @@ pub const ANSWER_LENGTH: usize = 12;
 // A step's share of the charge (W-202).
 pub const SHARE_LENGTH: usize = 8;
 
+// The grounds of a step, a byte a beat (W-206).
+pub const GROUNDS_LENGTH: usize = 32;
+
 pub const BOARD_LENGTH: usize = 80;
 
 // The most records of a sheet.
@@ -294,6 +297,29 @@ pub enum Target {
     Video(VideoMemory, Part, usize),
     // The backup chip, on a bus of 8 bits.
     Sram(Part, usize),
+}
+
+// ---- added: why a step costs what it does (W-206)
+
+// What decides the price of a beat. specs/Grounds.antt has document 02's name of each, its byte in a lent buffer and its cycles.
+pub enum Ground {
+    BufferHit,
+    Sequential,
+    // Nonsequential, by what makes it so: the force flag, the block of 0x20000 bytes, the address.
+    ByFlag,
+    ByBlock,
+    ByAddress,
+    EwramBus,
+    SramBus,
+    // Palette and VRAM.
+    VideoBus,
+    Fast,
+}
+
+// `Option<Ground>`: what a byte of the grounds says.
+pub enum BeatGround {
+    By(Ground),
+    NoBeat,
 }
 
 // ---- added: what a step answers

@@ -1,6 +1,6 @@
 -- The head of a recorded case: 17 numbers of four bytes, of which six are the lengths of what is lent, seven those of the
--- memories, then the seed, the length of the shares, the operation and the rate. From tests/against-rust/README.md, "The sample".
--- Assumes nothing.
+-- memories, then the seed, the length of the second buffer, the operation and the rate. From tests/against-rust/README.md, "The
+-- sample". Assumes nothing.
 use mathlib.Core.Bool.{Bool, _&&_}
 use mathlib.Core.List.{List}
 use Prim.Native.Nat.{ℕ, _*_}
@@ -16,7 +16,7 @@ headNumber b k = number 4 b (4 * k)
 abbrev pub headFits : List ℕ → Bool
 headFits b =
     leb (headNumber b 0) 49172 && leb (headNumber b 1) 144 && leb (headNumber b 2) 462853
-    && leb (headNumber b 3) 16385 && leb (headNumber b 4) 131136 && leb (headNumber b 5) 49164 && leb (headNumber b 14) 32776
+    && leb (headNumber b 3) 16385 && leb (headNumber b 4) 131136 && leb (headNumber b 5) 49164 && leb (headNumber b 14) 131104
 
 abbrev pub headLengths : List ℕ → Lengths
 headLengths b =

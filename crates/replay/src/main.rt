@@ -1,18 +1,20 @@
 // Replays recorded runs: reads a sample of cases with the Rust's answers from standard input, does each by `bts_run`,
-// `bts_run_tariff` or `bts_preview`, tells each field that differs, as `case 17: board`, and at the end how many cases agree. A
-// case's number is its place in the sample, from 0 on: case 17 is `sample:17` of tests/against-rust.
+// `bts_run_tariff`, `bts_run_grounds` or `bts_preview`, tells each field that differs, as `case 17: board`, and at the end how
+// many cases agree. A case's number is its place in the sample, from 0 on: case 17 is `sample:17` of tests/against-rust.
 //
 // The sample, the file `stdin`, was recorded by `tests/against-rust/run --record crates/replay/stdin` from the Rust at commit
 // 46607fe0ef, built unchanged but for a way to its prefetch's private fields. tests/against-rust/README.md has the format. Its
-// 983 cases are the worked figures' lists; random lists over memories of 0, 1, odd and other lengths; sound boards that no
+// 1,235 cases are the worked figures' lists; random lists over memories of 0, 1, odd and other lengths; sound boards that no
 // list of steps leads to, among them counters near 2^64 - 1; fills across each window edge, and one stopped after each number
 // of cycles; each refusal alone and each two of them; each way to break a board, boards of other lengths, and random damage;
 // each kind of record with each field wrong; each two faults of records, in either order, and faults in the last of 4,096; lists
 // of 0, 1, 4,096 and 4,097 records; every edge over full memories, those where addresses wrap included; stores across each
 // memory's end, at lengths of each residue modulo 4; each memory one byte too long; rows of data accesses in each window, around
 // blocks and edges, on boards with and without a previous access, with each other kind of step between; 103 runs under a
-// tariff, from one rounding edge to the next, with each refusal alone and each two of them; and 120 previews, of each kind of
-// step, from boards of all sorts, with each of their refusals alone and each two of them.
+// tariff, from one rounding edge to the next, with each refusal alone and each two of them; 120 previews, of each kind of
+// step, from boards of all sorts, with each of their refusals alone and each two of them; and 252 runs with grounds, each word
+// in its order of precedence, code across each edge with the force flag and the buffer, with each of their refusals alone and
+// each two of them.
 mod pattern;
 
 use bts::Bill;
@@ -64,7 +66,7 @@ fn told(case: u32, what: &[u8], same: bool) -> bool
 }
 
 // The head of a case has 17 numbers of four bytes: six lengths of what is lent, the seven of the memories, the seed, the length
-// of the shares, the operation and the rate.
+// of the second buffer, which is that of the shares or of the grounds, the operation and the rate.
 fn lengths_of(head: &[u8]) -> Lengths
     ensures { λ r. ⌜ r ≡ headLengths (now (head .entry)) ⌝ }
 {
@@ -86,10 +88,12 @@ struct Asked {
     rate: u32,
 }
 
-// The operation of a run under a tariff, and that of a preview; any other is a run.
+// The operation of a run under a tariff, that of a preview, and that of a run with grounds; any other is a run without either.
 const TARIFF: u32 = 1;
 
 const PREVIEW: u32 = 2;
+
+const GROUNDS: u32 = 3;
 
 fn asked_of(head: &[u8]) -> Asked
     ensures { λ r. ⌜ r ≡ headAsked (now (head .entry)) ⌝ }
@@ -134,15 +138,15 @@ fn compare_charge(case: u32, got: u64) -> Found {
     }
 }
 
-// No board, no answers and no shares of the sample are longer than this.
-const MOST_COMPARED: usize = 49164;
+// No board, no answers, no shares and no grounds of the sample are longer than this.
+const MOST_COMPARED: usize = 131104;
 
 fn compare_bytes(case: u32, what: &[u8], got: &[u8]) -> Found {
     let n = got.len();
     if n > MOST_COMPARED {
         return bad_sample();
     }
-    let mut space = [0u8; 49164];
+    let mut space = [0u8; 131104];
     let want = &mut space[0..n];
     if io::read_full(STDIN_FILENO, want) < n {
         return bad_sample();
@@ -207,7 +211,7 @@ fn set_up(
     bios: &mut [u8],
     rom: &mut [u8],
     answers: &mut [u8],
-    shares: &mut [u8],
+    second: &mut [u8],
     seed: u32,
 ) -> bool {
     if io::read_full(STDIN_FILENO, sheet) < sheet.len() {
@@ -220,7 +224,7 @@ fn set_up(
     pattern::fill(bios, seed, pattern::BIOS);
     pattern::fill(rom, seed, pattern::ROM);
     pattern::fill(answers, seed, pattern::ANSWERS);
-    pattern::fill(shares, seed, pattern::SHARES);
+    pattern::fill(second, seed, pattern::SECOND);
     true
 }
 
@@ -236,40 +240,15 @@ fn uncharged(report: Report) -> Bill
     }
 }
 
-// Does what the case asks.
-fn run(
+fn run_plain(
     sheet: &[u8],
     board: &mut [u8],
     store: &mut [u8],
     bios: &[u8],
     rom: &[u8],
     answers: &mut [u8],
-    shares: &mut [u8],
     x: Lengths,
-    asked: Asked,
 ) -> Bill {
-    if asked.operation == TARIFF {
-        return bts::bts_run_tariff(
-            sheet,
-            board,
-            store,
-            bios,
-            rom,
-            answers,
-            shares,
-            x.ewram,
-            x.iwram,
-            x.io,
-            x.palette,
-            x.vram,
-            x.oam,
-            x.sram,
-            asked.rate,
-        );
-    }
-    if asked.operation == PREVIEW {
-        return uncharged(bts::bts_preview(sheet, board, answers));
-    }
     uncharged(bts::bts_run(
         sheet,
         board,
@@ -287,6 +266,89 @@ fn run(
     ))
 }
 
+fn run_tariff(
+    sheet: &[u8],
+    board: &mut [u8],
+    store: &mut [u8],
+    bios: &[u8],
+    rom: &[u8],
+    answers: &mut [u8],
+    shares: &mut [u8],
+    x: Lengths,
+    rate: u32,
+) -> Bill {
+    bts::bts_run_tariff(
+        sheet,
+        board,
+        store,
+        bios,
+        rom,
+        answers,
+        shares,
+        x.ewram,
+        x.iwram,
+        x.io,
+        x.palette,
+        x.vram,
+        x.oam,
+        x.sram,
+        rate,
+    )
+}
+
+fn run_grounds(
+    sheet: &[u8],
+    board: &mut [u8],
+    store: &mut [u8],
+    bios: &[u8],
+    rom: &[u8],
+    answers: &mut [u8],
+    grounds: &mut [u8],
+    x: Lengths,
+) -> Bill {
+    uncharged(bts::bts_run_grounds(
+        sheet,
+        board,
+        store,
+        bios,
+        rom,
+        answers,
+        grounds,
+        x.ewram,
+        x.iwram,
+        x.io,
+        x.palette,
+        x.vram,
+        x.oam,
+        x.sram,
+    ))
+}
+
+// Does what the case asks.
+fn run(
+    sheet: &[u8],
+    board: &mut [u8],
+    store: &mut [u8],
+    bios: &[u8],
+    rom: &[u8],
+    answers: &mut [u8],
+    second: &mut [u8],
+    x: Lengths,
+    asked: Asked,
+) -> Bill {
+    let rate = asked.rate;
+    if asked.operation == TARIFF {
+        return run_tariff(sheet, board, store, bios, rom, answers, second, x, rate);
+    }
+    if asked.operation == GROUNDS {
+        return run_grounds(sheet, board, store, bios, rom, answers, second, x);
+    }
+    if asked.operation == PREVIEW {
+        return uncharged(bts::bts_preview(sheet, board, answers));
+    }
+    run_plain(sheet, board, store, bios, rom, answers, x)
+}
+
 // Compares what a run left, in the sample's order.
 fn compare(
     case: u32,
@@ -294,19 +356,16 @@ fn compare(
     board: &[u8],
     store: &mut [u8],
     answers: &[u8],
-    shares: &[u8],
+    second: &[u8],
     seed: u32,
 ) -> Found {
-    let first = compare_report(case, bill);
-    let second = compare_charge(case, bill.charge);
-    let third = compare_bytes(case, b"board", board);
-    let fourth = compare_bytes(case, b"answers", answers);
-    let fifth = compare_bytes(case, b"shares", shares);
-    let sixth = compare_store(case, store, seed);
-    both(
-        both(both(first, second), both(third, fourth)),
-        both(fifth, sixth),
-    )
+    let one = compare_report(case, bill);
+    let two = compare_charge(case, bill.charge);
+    let three = compare_bytes(case, b"board", board);
+    let four = compare_bytes(case, b"answers", answers);
+    let five = compare_bytes(case, b"shares or grounds", second);
+    let six = compare_store(case, store, seed);
+    both(both(both(one, two), both(three, four)), both(five, six))
 }
 
 // A case that is set up.
@@ -318,7 +377,7 @@ fn replay_ready(
     bios: &[u8],
     rom: &[u8],
     answers: &mut [u8],
-    shares: &mut [u8],
+    second: &mut [u8],
     lengths: Lengths,
     asked: Asked,
 ) -> Found {
@@ -330,11 +389,11 @@ fn replay_ready(
         bios,
         rom,
         answers,
-        shares,
+        second,
         lengths,
         asked,
     );
-    compare(case, bill, board, store, answers, shares, seed)
+    compare(case, bill, board, store, answers, second, seed)
 }
 
 // A case whose buffers have the lengths that the sample says.
@@ -346,12 +405,12 @@ fn replay_lent(
     bios: &mut [u8],
     rom: &mut [u8],
     answers: &mut [u8],
-    shares: &mut [u8],
+    second: &mut [u8],
     lengths: Lengths,
     asked: Asked,
 ) -> Found {
     let seed = asked.seed;
-    if !set_up(sheet, board, store, bios, rom, answers, shares, seed) {
+    if !set_up(sheet, board, store, bios, rom, answers, second, seed) {
         return bad_sample();
     }
     replay_ready(
@@ -362,7 +421,7 @@ fn replay_lent(
         bios,
         rom,
         answers,
-        shares,
+        second,
         lengths,
         asked,
     )
@@ -378,7 +437,7 @@ fn fits(head: &[u8]) -> bool
         & (word_at(head, 12) <= 16385)
         & (word_at(head, 16) <= 131136)
         & (word_at(head, 20) <= 49164)
-        & (word_at(head, 56) <= 32776)
+        & (word_at(head, 56) <= 131104)
 }
 
 fn at_most(n: u32, most: usize) -> usize
@@ -400,14 +459,14 @@ fn replay_headed(case: u32, head: &[u8]) -> Found {
     let mut bios = [0u8; 16385];
     let mut rom = [0u8; 131136];
     let mut answers = [0u8; 49164];
-    let mut shares = [0u8; 32776];
+    let mut second = [0u8; 131104];
     let a = at_most(word_at(head, 0), 49172);
     let b = at_most(word_at(head, 4), 144);
     let c = at_most(word_at(head, 8), 462853);
     let d = at_most(word_at(head, 12), 16385);
     let e = at_most(word_at(head, 16), 131136);
     let f = at_most(word_at(head, 20), 49164);
-    let g = at_most(word_at(head, 56), 32776);
+    let g = at_most(word_at(head, 56), 131104);
     let memories = lengths_of(head);
     let asked = asked_of(head);
     replay_lent(
@@ -418,7 +477,7 @@ fn replay_headed(case: u32, head: &[u8]) -> Found {
         &mut bios[0..d],
         &mut rom[0..e],
         &mut answers[0..f],
-        &mut shares[0..g],
+        &mut second[0..g],
         memories,
         asked,
     )

@@ -1,5 +1,5 @@
-// What the store, the BIOS, the ROM, the answers and the shares hold before a run. It follows from the case's seed, so the sample
-// need not have these bytes.
+// What the store, the BIOS, the ROM, the answers and the second buffer, that of the shares or of the grounds, hold before a run.
+// It follows from the case's seed, so the sample need not have these bytes.
 ghost use mathlib.Core.Path.{_≡_};
 ghost use mathlib.Core.Bool.{true};
 ghost use Prim.Native.Nat.{ℕ, _<_};
@@ -14,7 +14,7 @@ pub const ROM: u32 = 3;
 
 pub const ANSWERS: u32 = 4;
 
-pub const SHARES: u32 = 5;
+pub const SECOND: u32 = 5;
 
 // Each number is reduced first: it gives the same, and no product wraps.
 pub fn byte_at(i: usize, seed: u32, tag: u32) -> u8

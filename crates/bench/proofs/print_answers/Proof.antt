@@ -6,10 +6,10 @@ use Rattle.bench.proofs.print_answers.Statement.{statement}
 use Rattle.bench.proofs.print_answers.Tie as tie
 
 abbrev Inv-loop : tie.InvT-loop
-Inv-loop answers n k₀ k = k ≤ n
+Inv-loop answers grounds n k₀ k = k ≤ n
 
 abbrev μ-loop : tie.MeasureT-loop
-μ-loop answers n k₀ k = n - k
+μ-loop answers grounds n k₀ k = n - k
 
 pub print-answers-spec : {M : Type 1} → statement M
 print-answers-spec =

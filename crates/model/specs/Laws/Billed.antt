@@ -1,37 +1,36 @@
 -- W-202, of bytes as lent: when a run under a tariff is refused, and with what; what a refusal leaves; and what an accepted run's
 -- charge and shares are.
 use mathlib.Core.Path.{_≡_, refl, sym, ap, ap₂, _∙_}
-use mathlib.Core.Bool.{Bool, true, false, _||_}
+use mathlib.Core.Bool.{true, false, _||_}
 use mathlib.Core.Logic.{_≢_}
-use mathlib.Core.List.{List, [], _∷_, _++_}
+use mathlib.Core.List.{List, [], _∷_}
 use Prim.Native.Nat.{ℕ, zero, suc, _+_, _-_, _*_, _^_, _≤_, _<_}
 use native.Mathlib.Omega.{arith}
 use lib.ListN.{length, getD, take, drop, length-map, List·getD-append}
 use lib.Seq.{drop-at}
 use lib.Dec.{eqb, ltb, lit<}
-use borrow.Author.Tests.{ltb-true, ltb-false, le-ltb, ne-eqb}
-use Rattle.model.specs.Base.{sum, byteAt, number, numbersFrom, numbersBytes}
+use borrow.Author.Tests.{ltb-false, le-ltb, ne-eqb}
+use Rattle.model.specs.Base.{sum, byteAt, number, numbersFrom, numbersBytes, Exactly}
 use Rattle.model.specs.Step.{cyclesOf, total}
 use Rattle.model.specs.Sheet.{recordCount}
-use Rattle.model.specs.BoardBytes.{answerLength}
-use Rattle.model.specs.Outcome.{LentBytes, Outcome, Row, row, byRow, firstRow, lentRows, answersRows, faultIndex}
-use Rattle.model.specs.Outcome.{recordsRows, rows, ran, verdict, verdictNumber, outcomeBy, outcome}
+use Rattle.model.specs.Outcome.{LentBytes, Outcome, row, firstRow, secondRows}
+use Rattle.model.specs.Outcome.{ran, verdict, verdictNumber, outcomeBy, outcome}
 use Rattle.model.specs.Alike.{AlikeSheets, AlikeBoards, answerStart, cyclesFrom}
 use Rattle.model.specs.Tariff.{maxRate, cost, charge, chargeDown, shares, shareLength, sharesIn, Tariffed, Billed}
-use Rattle.model.specs.Tariff.{sharesRows, rateRows, tariffRows, tariffVerdict, billBy, bill}
+use Rattle.model.specs.Tariff.{rateRows, tariffRows, tariffVerdict, billBy, bill}
 use Rattle.model.specs.Tariff.{shareAt, cyclesAt, cyclesTo, Bills, SameBill}
-use Rattle.model.specs.Laws.Choice.{by-test, never, eqb-ne, or-false, or-false-left, or-false-right}
-use Rattle.model.specs.Laws.Rows.{Exactly, Decides, NoneHolds, Rising, numberAt, orElse, row-passes, first-append}
-use Rattle.model.specs.Laws.Rows.{none-accepts, none-of-both, next-decides, decides-refusal, decided, undecided}
+use Rattle.model.specs.Laws.Choice.{by-test, never, eqb-ne, or-false-left, or-false-right}
+use Rattle.model.specs.Laws.Rows.{Decides, NoneHolds, Rising, numberAt, orElse, row-passes, first-append}
+use Rattle.model.specs.Laws.Rows.{none-accepts, none-of-both, next-decides, decided, undecided}
 use Rattle.model.specs.Laws.Rows.{at-most, zero-accepted}
-use Rattle.model.specs.Laws.Refusal.{FirstFault, first-fault, by-number, Index, zero-index, Acceptable}
-use Rattle.model.specs.Laws.Refusal.{none-acceptable, acceptable-none, Untouched, by-refusal}
+use Rattle.model.specs.Laws.Refusal.{by-number, Index, zero-index, Untouched, by-refusal}
+use Rattle.model.specs.Laws.Second.{Room, AcceptableWith, same-verdict, none-of-second, fault-told}
 use Rattle.model.specs.Laws.Fits.{answers-count, total-fits}
 use Rattle.model.specs.Laws.Codec.{numbers-length, numbers-back, numbers-at}
 use Rattle.model.specs.Laws.Demand3.{cycles-there, alike-count, same-cycles, demand3}
 use Rattle.model.specs.Laws.Charge.{rounded-up, cost-fits, adds-at-most, adds-at-least}
 use Rattle.model.specs.Laws.Charge.{shares-length, shares-add-up, share-is, cycles-further}
-use Rattle.model.specs.declared.Refusal.the-variants.{ShortAnswers, FaultyRecord, BadRate}
+use Rattle.model.specs.declared.Refusal.the-variants.{BadRate}
 use Rattle.model.specs.declared.Verdict.{Verdict}
 use Rattle.model.specs.declared.Verdict.the-variants.{Accepted, Refused}
 
@@ -69,9 +68,6 @@ eight-refusals t =
 
 -- ---- what is asked besides the run's conditions
 
-pub record Room (t : Tariffed) : Type 0 where
-  pub shares : shareLength * recordCount (t .run .sheet) ≤ length (t .shares)
-
 pub record Fair (rate : ℕ) : Type 0 where
   pub some : 1 ≤ rate
   pub most : rate ≤ maxRate
@@ -85,67 +81,34 @@ passes-fair rate h =
     let some = eqb-ne rate 0 (or-false-left (eqb rate 0) (ltb maxRate rate) h) in
     record { some = omega (arith, some); most = ltb-false maxRate rate (or-false-right (eqb rate 0) (ltb maxRate rate) h) }
 
--- the row of the room
-abbrev tooShort : Tariffed → Bool
-tooShort t = ltb (length (t .run .answers)) (answerLength * recordCount (t .run .sheet))
-
-long-enough : (t : Tariffed)
-    → Exactly ((tooShort t || ltb (length (t .shares)) (shareLength * recordCount (t .run .sheet))) ≡ false)
-    ((tooShort t ≡ false) × Room t)
-long-enough t = (
-  λ h. (or-false-left (tooShort t) _ h, record { shares = ltb-false _ _ (or-false-right (tooShort t) _ h) }),
-  λ h. or-false (tooShort t) _ (le-ltb (length (t .shares)) _ (h .1 .shares)) ∙ h .0,
-)
-
--- with room and a fair rate the table says what the run's does
-same-verdict : (t : Tariffed) → Room t → Fair (t .rate) → firstRow (tariffRows t) ≡ firstRow (rows (t .run))
-same-verdict t r f =
-    let n = recordCount (t .run .sheet) in
-    let fault = faultIndex (t .run .sheet) in
-    first-append (lentRows (t .run)) (sharesRows t ++ (recordsRows (t .run .sheet) ++ rateRows (t .rate)))
-    ∙ ap₂
-    (λ (short : Bool) (v : Verdict).
-    orElse (firstRow (lentRows (t .run))) (byRow (row short ShortAnswers) (byRow (row (ltb fault n) (FaultyRecord fault)) v)))
-    (or-false (tooShort t) _ (le-ltb (length (t .shares)) (shareLength * n) (r .shares)))
-    (row-passes _ Accepted (fair-passes (t .rate) f))
-    ∙ sym (first-append (lentRows (t .run)) (answersRows n (length (t .run .answers)) ++ recordsRows (t .run .sheet)))
+-- room for the shares, as a run with a second buffer has it
+abbrev pub SharesRoom : Tariffed → Type 0
+SharesRoom t = Room (t .run) shareLength (length (t .shares))
 
 -- ---- it is a whole run besides
 
 -- with room for the shares and a fair rate it gives and leaves what the run does, refused or not
-pub whole-run : (t : Tariffed) → Room t → Fair (t .rate) → (bill t) .run ≡ outcome (t .run)
+pub whole-run : (t : Tariffed) → SharesRoom t → Fair (t .rate) → (bill t) .run ≡ outcome (t .run)
 unfolding bill tariffVerdict outcome verdict
-whole-run t r f = ap (outcomeBy (t .run)) (same-verdict t r f)
+whole-run t r f =
+    ap (outcomeBy (t .run))
+    (first-append (secondRows (t .run) shareLength (length (t .shares))) (rateRows (t .rate))
+    ∙ ap (orElse (firstRow (secondRows (t .run) shareLength (length (t .shares))))) (row-passes _ Accepted (fair-passes (t .rate) f))
+    ∙ or-else-accepted (firstRow (secondRows (t .run) shareLength (length (t .shares))))
+    ∙ same-verdict (t .run) shareLength (length (t .shares)) r)
+  where
+    or-else-accepted : (v : Verdict) → orElse v Accepted ≡ v
+    or-else-accepted Accepted = refl
+    or-else-accepted (Refused q) = refl
 
 -- ---- accepted exactly when the run is, there is room for the shares, and the rate is fair
 
--- the table before its last row
-abbrev seven : Tariffed → List Row
-seven t = lentRows (t .run) ++ (sharesRows t ++ recordsRows (t .run .sheet))
+-- none of the rows before the last holds
+abbrev pub AllButRate : Tariffed → Type 0
+AllButRate t = AcceptableWith (t .run) shareLength (length (t .shares))
 
--- none of these holds
-pub record AllButRate (t : Tariffed) : Type 0 where
-  pub run : Acceptable (t .run)
-  pub room : Room t
-
-none-of-seven : (t : Tariffed) → Exactly (NoneHolds (seven t)) (AllButRate t)
-none-of-seven t = (to, from)
-  where
-    to : NoneHolds (seven t) → AllButRate t
-    to h =
-        let e = (long-enough t) .0 (h .1 .1 .1 .1 .1 .0) in
-        record {
-          run =
-              none-acceptable (t .run)
-              (h .0, (h .1 .0, (h .1 .1 .0, (h .1 .1 .1 .0, (h .1 .1 .1 .1 .0, (e .0, h .1 .1 .1 .1 .1 .1))))));
-          room = e .1;
-        }
-
-    from : AllButRate t → NoneHolds (seven t)
-    from a =
-        let h = acceptable-none (t .run) (a .run) in
-        let short = (long-enough t) .1 (h .1 .1 .1 .1 .1 .0, a .room) in
-        (h .0, (h .1 .0, (h .1 .1 .0, (h .1 .1 .1 .0, (h .1 .1 .1 .1 .0, (short, h .1 .1 .1 .1 .1 .1))))))
+none-of-seven : (t : Tariffed) → Exactly (NoneHolds (secondRows (t .run) shareLength (length (t .shares)))) (AllButRate t)
+none-of-seven t = none-of-second (t .run) shareLength (length (t .shares))
 
 pub record TariffAcceptable (t : Tariffed) : Type 0 where
   pub all : AllButRate t
@@ -153,7 +116,7 @@ pub record TariffAcceptable (t : Tariffed) : Type 0 where
 
 none-of-all : (t : Tariffed) → Exactly (NoneHolds (tariffRows t)) (TariffAcceptable t)
 none-of-all t =
-    let both = none-of-both (seven t) (rateRows (t .rate)) in (
+    let both = none-of-both (secondRows (t .run) shareLength (length (t .shares))) (rateRows (t .rate)) in (
       λ h. record { all = (none-of-seven t) .0 (both .0 h .0); rate = passes-fair (t .rate) (both .0 h .1 .0) },
       λ a. both .1 ((none-of-seven t) .1 (a .all), (fair-passes (t .rate) (a .rate), tt)),
     )
@@ -175,7 +138,9 @@ pub record RateAlone (t : Tariffed) : Type 0 where
 pub bad-rate : (t : Tariffed) → Exactly ((bill t) .run .number ≡ 8) (RateAlone t)
 bad-rate t =
     let eight = (tariff-table t) .row 7 (lit< tt) in
-    let last = next-decides (seven t) (row (eqb (t .rate) 0 || ltb maxRate (t .rate)) BadRate) [] in (
+    let last =
+    next-decides (secondRows (t .run) shareLength (length (t .shares)))
+    (row (eqb (t .rate) 0 || ltb maxRate (t .rate)) BadRate) [] in (
       λ h.
           let d = last .0 (eight .0 h) in
           record { all = (none-of-seven t) .0 (d .0); unfair = λ f. never (d .1) (fair-passes (t .rate) f) },
@@ -207,13 +172,11 @@ unfolding bill tariffVerdict
 tariff-index t =
     record {
       refused = zero-index (t .run) (tariffVerdict t);
-      faulty-record = λ h. fault ((tariff-table t) .row 6 (lit< tt) .0 h);
+      faulty-record = λ h.
+          fault-told (t .run) shareLength (length (t .shares)) (rateRows (t .rate)) ((tariff-table t) .row 6 (lit< tt) .0 h);
       accepted = λ h.
           ap (λ (v : Verdict). (outcomeBy (t .run) v) .index) (zero-accepted (tariffVerdict t) (sym (number-is t) ∙ h));
     }
-  where
-    fault : Decides (tariffRows t) 6 → FirstFault (t .run .sheet) ((outcomeBy (t .run) (firstRow (tariffRows t))) .index)
-    fault d = rw (decides-refusal (tariffRows t) 6 d) (first-fault (t .run .sheet) (ltb-true _ _ (d .1 .1 .1 .1 .1 .1)))
 
 -- ---- an accepted run
 

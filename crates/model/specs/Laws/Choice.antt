@@ -100,3 +100,8 @@ or-right false b e h = e
 abbrev pub All : {A : Type 0} → (A → Type 0) → List A → Type 0
 All P [] = Unit
 All P (x ∷ xs) = P x × All P xs
+
+-- what holds of everything holds of each of them
+pub all-of : {A : Type 0} (P : A → Type 0) → ((x : A) → P x) → (xs : List A) → All P xs
+all-of P f [] = tt
+all-of P f (x ∷ xs) = (f x, all-of P f xs)

@@ -17,11 +17,12 @@ use lib.Dec.{eqb}
 use borrow.Author.Tests.{eqb-true, leb-true}
 use borrow.Rule.Slice.PartMut.{putMid}
 use Rattle.model.specs.Base.{bit, sum, bytes, byteAt, number, numbersFrom, AllBytes, Field, field, encoded, numbersBytes}
+use Rattle.model.specs.Base.{blocks}
 use Rattle.model.specs.Waitcnt.{prefetchEnable}
 use Rattle.model.specs.Price.{previous}
 use Rattle.model.specs.BoardBytes.{boardLength, clockOf, halvesFrom, contentsOf, boardOf, clockFields}
 use Rattle.model.specs.BoardBytes.{contentsFields, previousFields, boardBytes, soundBytes, sound}
-use Rattle.model.specs.Laws.Choice.{parts}
+use Rattle.model.specs.Laws.Choice.{All, parts}
 use Rattle.model.specs.declared.Clock.{Clock}
 use Rattle.model.specs.declared.Contents.{Contents}
 use Rattle.model.specs.declared.Board.{Board}
@@ -134,6 +135,40 @@ numbers-below : (w : ℕ) (b : List ℕ) → AllBytes b → (i n j : ℕ) → ge
 numbers-below w b h i zero j = one-le-pow w 256 (omega arith)
 numbers-below w b h i (suc n) zero = number-below w i b h
 numbers-below w b h i (suc n) (suc j) = numbers-below w b h (i + w) n j
+
+-- ---- blocks of one width, one behind the other
+
+module _ {A : Type 0} (w : ℕ) (f : A → List ℕ) where
+  abbrev pub OfWidth : A → Type 0
+  OfWidth x = length (f x) ≡ w
+
+  pub blocks-length : (xs : List A) → All OfWidth xs → length (blocks f xs) ≡ w * length xs
+  blocks-length [] h = sym (mul-zero w)
+  blocks-length (x ∷ xs) h =
+      length-append (f x) (blocks f xs) ∙ ap₂ (λ (a b : ℕ). a + b) (h .0) (blocks-length xs (h .1))
+      ∙ omega (arith, mul-suc w (length xs))
+
+  -- block k
+  pub block-there : (xs : List A) (rest : List ℕ) (k : ℕ) (d : A) → All OfWidth xs → k < length xs
+      → take w (drop (w * k) (blocks f xs ++ rest)) ≡ f (getD xs k d)
+  block-there [] rest k d h l = absurd (omega arith)
+  block-there (x ∷ xs) rest zero d h l =
+      ap (λ (n : ℕ). take w (drop n (blocks f (x ∷ xs) ++ rest))) (mul-zero w)
+      ∙ ap (take w) (append-assoc (f x) (blocks f xs) rest)
+      ∙ take-at (f x) (blocks f xs ++ rest) w (h .0)
+  block-there (x ∷ xs) rest (suc k) d h l =
+      let e : w * suc k ≡ w + w * k = omega (arith, mul-suc w k) in
+      ap (λ (n : ℕ). take w (drop n (blocks f (x ∷ xs) ++ rest))) e
+      ∙ ap (take w) (sym (drop-drop (w * k) w (blocks f (x ∷ xs) ++ rest)))
+      ∙ ap (λ (b : List ℕ). take w (drop (w * k) b))
+      (ap (drop w) (append-assoc (f x) (blocks f xs) rest) ∙ drop-at (f x) (blocks f xs ++ rest) w (h .0))
+      ∙ block-there xs rest k d (h .1) (omega arith)
+
+-- one more
+pub blocks-snoc : {A : Type 0} (f : A → List ℕ) (xs : List A) (x : A) → blocks f (xs ++ x ∷ []) ≡ blocks f xs ++ f x
+blocks-snoc f [] x = append-nil (f x)
+blocks-snoc f (y ∷ xs) x =
+    ap (λ (t : List ℕ). f y ++ t) (blocks-snoc f xs x) ∙ sym (append-assoc (f y) (blocks f xs) (f x))
 
 -- ---- parts of one width, written one behind the other
 

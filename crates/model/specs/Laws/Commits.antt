@@ -49,7 +49,7 @@ module _ (t : Waits) where
   unfolding startBeat
   startBeat-same p = beatIn-same p (window (p .«next_addr»))
 
-  ready-same : (p : PrefetchBuffer) → Grown p (ready t p) 0
+  pub ready-same : (p : PrefetchBuffer) → Grown p (ready t p) 0
   unfolding ready
   ready-same p =
       either (λ (q : PrefetchBuffer). Grown p q 0)
@@ -74,7 +74,7 @@ module _ (t : Waits) where
       (then-same (arrived-one p) (startBeat-same (arrived p))) (arrived-one p)
 
   -- a cycle in which a halfword arrives, and one in which none does
-  tick1-one : (p : PrefetchBuffer) → arrives t p ≡ true → Grown p (tick1 t p) 1
+  pub tick1-one : (p : PrefetchBuffer) → arrives t p ≡ true → Grown p (tick1 t p) 1
   unfolding arrives tick1 advance
   tick1-one p e =
       let on : p .enabled && (ready t p) .filling ≡ true =
@@ -87,7 +87,7 @@ module _ (t : Waits) where
       (λ l. never last l))
       (λ h. never on h)
 
-  tick1-none : (p : PrefetchBuffer) → arrives t p ≡ false → Grown p (tick1 t p) 0
+  pub tick1-none : (p : PrefetchBuffer) → arrives t p ≡ false → Grown p (tick1 t p) 0
   unfolding arrives tick1 advance
   tick1-none p e =
       choose (λ (q : PrefetchBuffer). Grown p q 0) (p .enabled && (ready t p) .filling)

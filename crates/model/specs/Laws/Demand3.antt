@@ -9,7 +9,7 @@ use Prim.Native.Nat.{ℕ, zero, suc, _+_, _-_, _*_, _%_, _≤_, _<_}
 use native.Mathlib.Omega.{arith}
 use native.Mathlib.Nat.{add-zero, add-assoc, mod-eq-of-lt}
 use lib.ListN.{length, getD, take, drop, length-map}
-use lib.Seq.{getD-append-add, getD-take, getD-drop, getD-set-other, drop-drop}
+use lib.Seq.{getD-append-add, getD-take, getD-drop, getD-set-other}
 use lib.Dec.{eqb}
 use Rattle.model.specs.Base.{sum, byteAt, bytes, number}
 use Rattle.model.specs.Waitcnt.{prefetchEnable}
@@ -19,16 +19,17 @@ use Rattle.model.specs.BoardBytes.{answerLength, clockOf, answerBytes, a
 use Rattle.model.specs.Outcome.{Lent, LentBytes, Outcome, mediaOf, firstState, ran, outcomeBy, outcome}
 use Rattle.model.specs.Alike.{AlikeRecords, AlikeSheets, AlikeBoards, stateAt, answerAt, answerStart}
 use Rattle.model.specs.Alike.{ReadBack, cyclesFrom, Accounts, Compared, Demand3}
-use Rattle.model.specs.Laws.Choice.{All, choose₂, tests, eqb-ne}
+use Rattle.model.specs.Laws.Choice.{All, all-of, choose₂, tests, eqb-ne}
 use Rattle.model.specs.Laws.Kinds.{by-kind}
 use Rattle.model.specs.Preview.{previewed}
+use Rattle.model.specs.Grounds.{groundsAfter, runGrounds}
 use Rattle.model.specs.Laws.Times.{withHits, withValue, blanked, run-blanked, each-at, run-cycles, run-total}
-use Rattle.model.specs.Laws.Times.{Shown, shown, SameTime, SameTimes, previews-alike}
+use Rattle.model.specs.Laws.Times.{Shown, shown, SameTime, SameTimes, previews-alike, grounds-alike}
 use Rattle.model.specs.Laws.Run.{run-at}
 use Rattle.model.specs.Laws.Limits.{preview-limits, records-length}
 use Rattle.model.specs.Laws.Fits.{AnswerFits, answers-fit, answers-count}
 use Rattle.model.specs.Laws.Refusal.{was-accepted, record-in}
-use Rattle.model.specs.Laws.Codec.{number-past, number-fits, flag-byte}
+use Rattle.model.specs.Laws.Codec.{number-past, number-fits, flag-byte, OfWidth, block-there}
 use Rattle.model.specs.declared.Clock.{Clock}
 use Rattle.model.specs.declared.Answer.{Answer}
 use Rattle.model.specs.declared.SheetRecord.{SheetRecord}
@@ -136,13 +137,8 @@ module _ (b c : List ℕ) (h : AlikeBoards b c) where
 -- the bytes of answer k
 answer-there : (xs : List Answer) (rest : List ℕ) (k : ℕ) (d : Answer) → k < length xs
     → take answerLength (drop (answerStart k) (answersBytes xs ++ rest)) ≡ answerBytes (getD xs k d)
-answer-there [] rest k d h = absurd (omega arith)
-answer-there (x ∷ xs) rest zero d h = refl
-answer-there (x ∷ xs) rest (suc k) d h =
-    let e : answerStart (suc k) ≡ 12 + answerStart k = omega arith in
-    ap (λ (n : ℕ). take answerLength (drop n (answersBytes (x ∷ xs) ++ rest))) e
-    ∙ ap (take answerLength) (sym (drop-drop (answerStart k) 12 (answersBytes (x ∷ xs) ++ rest)))
-    ∙ answer-there xs rest k d (omega arith)
+answer-there xs rest k d h =
+    block-there answerLength answerBytes xs rest k d (all-of (OfWidth answerLength answerBytes) (λ x. refl) xs) h
 
 -- a byte of it
 module _ (b : List ℕ) (k : ℕ) (x : Answer) (e : take answerLength (drop (answerStart k) b) ≡ answerBytes x) where
@@ -308,6 +304,12 @@ module _ (i j : Lent) (s : AlikeSheets (i .sheet) (j .sheet)) (b : AlikeBoards (
   steps-alike =
       rw (← alike-count (i .sheet) (j .sheet) s)
       (alike-steps (i .sheet) (j .sheet) 0 (recordCount (i .sheet)) (λ k h. s .records k (omega arith)))
+
+  pub same-grounds : runGrounds i ≡ runGrounds j
+  unfolding runGrounds
+  same-grounds =
+      grounds-alike (clockOf (i .board)) (stepsOf (i .sheet)) (stepsOf (j .sheet)) steps-alike
+      ∙ ap (λ (c : Clock). groundsAfter c (stepsOf (j .sheet))) (alike-clock (i .board) (j .board) b)
 
   pub same-preview : previewed (clockOf (i .board)) (stepsOf (i .sheet)) ≡ previewed (clockOf (j .board)) (stepsOf (j .sheet))
   same-preview =

@@ -11,13 +11,16 @@ use Rattle.model.specs.declared.SheetRecord.{SheetRecord}
 use Rattle.model.specs.declared.Step.{Step}
 use Rattle.model.specs.declared.Step.the-variants.{Read, Write, Waitcnt, Idle, Fetch, Restart, Instruction, Pc, Latch}
 
--- none of the kinds 1 to 8, so that the step is LATCH; of these, what is asked for
+-- none of the kinds 1 to 8, so that the step is LATCH
 pub record Other (kind : ℕ) : Type 0 where
   pub read : eqb kind 1 ≡ false
   pub write : eqb kind 2 ≡ false
+  pub waitcnt : eqb kind 3 ≡ false
   pub idle : eqb kind 4 ≡ false
   pub fetch : eqb kind 5 ≡ false
+  pub restart : eqb kind 6 ≡ false
   pub instruction : eqb kind 7 ≡ false
+  pub pc : eqb kind 8 ≡ false
 
 pub by-kind : (P : ℕ → Step → Type 0) (r : SheetRecord)
     → P 1 (Read (accessSize (r .size)) (r .address))
@@ -40,7 +43,8 @@ by-kind P r read write waitcnt idle fetch restart instruction pc latch =
     λ e₅. choose (P (r .kind)) (eqb (r .kind) 6) (λ e. at 6 e restart)
     λ e₆. choose (P (r .kind)) (eqb (r .kind) 7) (λ e. at 7 e instruction)
     λ e₇. choose (P (r .kind)) (eqb (r .kind) 8) (λ e. at 8 e pc)
-    λ e₈. latch (record { read = e₁; write = e₂; idle = e₄; fetch = e₅; instruction = e₇ })
+    λ e₈. latch
+    (record { read = e₁; write = e₂; waitcnt = e₃; idle = e₄; fetch = e₅; restart = e₆; instruction = e₇; pc = e₈ })
   where
     at : (n : ℕ) {x : Step} → eqb (r .kind) n ≡ true → P n x → P (r .kind) x
     at n e p = let k : r .kind ≡ n = eqb-true (r .kind) n e in rw k p

@@ -1,15 +1,15 @@
 -- What the records of a sheet bound: I + A + D and 19 I + 18 A + D for the total, and 32 bits for each step's cycles.
-use mathlib.Core.Path.{_≡_, refl}
+use mathlib.Core.Path.{_≡_, refl, ap, _∙_}
 use mathlib.Core.Bool.{_||_}
-use mathlib.Core.List.{List, [], _∷_, map}
+use mathlib.Core.List.{List, [], _∷_, _++_, map, map-append}
 use Prim.Native.Nat.{ℕ, zero, suc, _+_, _*_, _≤_}
 use native.Mathlib.Omega.{arith}
-use lib.ListN.{length}
+use lib.ListN.{length, take}
 use lib.Dec.{eqb}
 use borrow.Author.Tests.{eqb-true}
 use Rattle.model.specs.Base.{if_then_else_, bit, sum}
 use Rattle.model.specs.Step.{timed, clockAfter, cyclesIn}
-use Rattle.model.specs.Sheet.{recordsFrom, stepOf}
+use Rattle.model.specs.Sheet.{recordAt, recordsFrom, stepOf}
 use Rattle.model.specs.Alike.{Limits}
 use Rattle.model.specs.Preview.{previewed}
 use Rattle.model.specs.Laws.Choice.{by-test, bit≤1}
@@ -61,3 +61,29 @@ pub records-length : (s : List ℕ) (k n : ℕ) → length (recordsFrom s k n) �
 unfolding recordsFrom
 records-length s k zero = refl
 records-length s k (suc n) = rw (records-length s (k + 1) n)
+
+-- one record more
+records-snoc : (sheet : List ℕ) (k n : ℕ) → recordsFrom sheet k (suc n) ≡ recordsFrom sheet k n ++ recordAt sheet (k + n) ∷ []
+unfolding recordsFrom
+records-snoc sheet k zero = ap (λ (j : ℕ). recordAt sheet j ∷ []) (omega arith)
+records-snoc sheet k (suc n) =
+    ap (λ (rs : List SheetRecord). recordAt sheet k ∷ rs)
+    (records-snoc sheet (k + 1) n ∙ ap (λ (j : ℕ). recordsFrom sheet (k + 1) n ++ recordAt sheet j ∷ []) (omega arith))
+
+-- and its step
+pub steps-snoc : (sheet : List ℕ) (k : ℕ)
+    → map stepOf (recordsFrom sheet 0 (k + 1)) ≡ map stepOf (recordsFrom sheet 0 k) ++ stepOf (recordAt sheet k) ∷ []
+steps-snoc sheet k =
+    let next : k + 1 ≡ suc k = omega arith in
+    let own : 0 + k ≡ k = omega arith in
+    ap (λ (n : ℕ). map stepOf (recordsFrom sheet 0 n)) next
+    ∙ ap (map stepOf) (records-snoc sheet 0 k ∙ ap (λ (j : ℕ). recordsFrom sheet 0 k ++ recordAt sheet j ∷ []) own)
+    ∙ map-append stepOf (recordsFrom sheet 0 k) (recordAt sheet k ∷ [])
+
+-- the steps of the first k records
+pub steps-take : (sheet : List ℕ) (i k n : ℕ) → k ≤ n → take k (map stepOf (recordsFrom sheet i n)) ≡ map stepOf (recordsFrom sheet i k)
+unfolding recordsFrom
+steps-take sheet i zero n h = refl
+steps-take sheet i (suc k) zero h = absurd (omega arith)
+steps-take sheet i (suc k) (suc n) h =
+    ap (λ (xs : List Step). stepOf (recordAt sheet i) ∷ xs) (steps-take sheet (i + 1) k n (omega arith))

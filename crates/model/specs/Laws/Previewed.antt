@@ -10,7 +10,7 @@ use native.Mathlib.Omega.{arith}
 use lib.ListN.{length, drop}
 use lib.Dec.{eqb, lit<}
 use borrow.Author.Tests.{ne-eqb}
-use Rattle.model.specs.Base.{if_then_else_, sum}
+use Rattle.model.specs.Base.{if_then_else_, sum, Exactly}
 use Rattle.model.specs.Step.{cyclesIn, total}
 use Rattle.model.specs.Sheet.{recordCount, recordsFrom, recordsOf, stepOf, stepsOf}
 use Rattle.model.specs.BoardBytes.{answerLength, clockOf, answerBytes, answersBytes}
@@ -23,7 +23,7 @@ use Rattle.model.specs.Preview.{Memories, noMemories, lentWith, zeroed, 
 use Rattle.model.specs.Laws.Kinds.{by-kind}
 use Rattle.model.specs.Laws.Times.{blanked, eachStep, run-blanked, run-total}
 use Rattle.model.specs.Laws.Limits.{preview-limits, records-length}
-use Rattle.model.specs.Laws.Rows.{Exactly, Decides, NoneHolds, Rising, numberAt, left-out}
+use Rattle.model.specs.Laws.Rows.{Decides, NoneHolds, Rising, numberAt, left-out}
 use Rattle.model.specs.Laws.Rows.{refused-number, decided, undecided, zero-accepted}
 use Rattle.model.specs.Laws.Refusal.{Index, index, by-number, table, seven-refusals}
 use Rattle.model.specs.Laws.Fits.{answers-count}

@@ -61,11 +61,11 @@ pub access-sound : (z : AccessSize) (a : ℕ) → SoundPrevious (accessOf z a)
 access-sound z a = record { small = aligned-small z a; tested = multiple-tested z (aligned z a) (aligned-multiple z a) }
 
 -- what the test says of an access that is there: a size, and a multiple of it
-record There (p : Previous) : Type 0 where
-  sized : sizeBytes (accessSize (p .size)) ≡ p .size
-  multiple : p .addr % p .size ≡ 0
+pub record There (p : Previous) : Type 0 where
+  pub sized : sizeBytes (accessSize (p .size)) ≡ p .size
+  pub multiple : p .addr % p .size ≡ 0
 
-there : (p : Previous) → SoundPrevious p → eqb (p .size) 0 ≡ false → There p
+pub there : (p : Previous) → SoundPrevious p → eqb (p .size) 0 ≡ false → There p
 unfolding soundPrevious
 there p s e =
     let t : (eqb (p .size) 1 || eqb (p .size) 2 || eqb (p .size) 4) && eqb (p .addr % p .size) 0 ≡ true =
@@ -172,7 +172,7 @@ pub record Continues (y : AccessSize) (b : ℕ) (z : AccessSize) (a : ℕ) : Typ
   pub goes-on : aligned z a ≡ further (sizeBytes y) (aligned y b)
   pub no-block : aligned z a % 0x20000 ≢ 0
 
-some-size : (z : AccessSize) → eqb (sizeBytes z) 0 ≡ false
+pub some-size : (z : AccessSize) → eqb (sizeBytes z) 0 ≡ false
 some-size Byte = refl
 some-size Half = refl
 some-size Word = refl

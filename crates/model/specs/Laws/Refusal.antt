@@ -9,6 +9,7 @@ use native.Mathlib.Omega.{arith}
 use lib.ListN.{length, getD}
 use lib.Dec.{eqb, ltb, lit<}
 use borrow.Author.Tests.{not-true, not-false, le-ltb, ltb-true, ltb-false}
+use Rattle.model.specs.Base.{Exactly}
 use Rattle.model.specs.Sheet.{sheetVersion, isMarked, versionOf, isShaped, recordCount}
 use Rattle.model.specs.Sheet.{recordAt, recordsFrom, recordsOf, faulty, firstOf}
 use Rattle.model.specs.BoardBytes.{answerLength, sound}
@@ -16,7 +17,7 @@ use Rattle.model.specs.Outcome.{Lent, Outcome, sizesFit, faultIndex, row
 use Rattle.model.specs.Outcome.{verdictNumber, refusalIndex, outcomeBy, outcome}
 use Rattle.model.specs.Laws.Choice.{choose, by-test}
 use Rattle.model.specs.Laws.Limits.{records-length}
-use Rattle.model.specs.Laws.Rows.{Exactly, Decides, NoneHolds, Rising, decided, undecided}
+use Rattle.model.specs.Laws.Rows.{Decides, NoneHolds, Rising, decided, undecided}
 use Rattle.model.specs.Laws.Rows.{at-most, decides-refusal, none-accepts, zero-accepted}
 use Rattle.model.specs.declared.Refusal.{Refusal}
 use Rattle.model.specs.declared.Refusal.the-variants.{BadMark, BadVersion, BadShape, BadLengths}

@@ -7,7 +7,7 @@ use mathlib.Core.List.{List, [], _∷_, _++_}
 use Prim.Native.Nat.{ℕ, zero, suc, _≤_, _<_}
 use native.Mathlib.Omega.{arith}
 use lib.ListN.{length}
-use Rattle.model.specs.Base.{if_then_else_}
+use Rattle.model.specs.Base.{if_then_else_, Exactly}
 use Rattle.model.specs.Outcome.{Row, byRow, firstRow, refusalNumber, verdictNumber}
 use Rattle.model.specs.Laws.Choice.{choose, by-test, either, if-true, if-false}
 use Rattle.model.specs.declared.Refusal.{Refusal}
@@ -15,10 +15,6 @@ use Rattle.model.specs.declared.Refusal.the-variants.{BadMark, BadVersio
 use Rattle.model.specs.declared.Refusal.the-variants.{UnsoundBoard, ShortAnswers, FaultyRecord, BadRate}
 use Rattle.model.specs.declared.Verdict.{Verdict}
 use Rattle.model.specs.declared.Verdict.the-variants.{Accepted, Refused}
-
--- both or neither
-abbrev pub Exactly : Type 0 → Type 0 → Type 0
-Exactly P Q = (P → Q) × (Q → P)
 
 -- row k holds, and no row before it does
 abbrev pub Decides : List Row → ℕ → Type 0

@@ -1,7 +1,7 @@
 -- The core of demand 3 and of the preview (W-205), one law for both: a run's answers, without what only the memories tell, are
 -- those of its clock and its steps alone.
 use mathlib.Core.Path.{_≡_, refl, sym, ap, _∙_}
-use mathlib.Core.List.{List, [], _∷_}
+use mathlib.Core.List.{List, [], _∷_, _++_}
 use Prim.Native.Nat.{ℕ, zero, suc, _<_}
 use native.Mathlib.Omega.{arith}
 use native.Mathlib.Nat.{add-zero}
@@ -10,9 +10,11 @@ use Rattle.model.specs.Base.{bit, sum}
 use Rattle.model.specs.Prefetch.{hit}
 use Rattle.model.specs.Step.{Media, State, run, cyclesIn, cyclesOf, total, codeHits, clockAfter, stepped, answer}
 use Rattle.model.specs.Preview.{foretold, previewed}
+use Rattle.model.specs.Grounds.{grounds as groundsOf, groundsAfter}
 use Rattle.model.specs.Laws.Run.{run-length}
 use Rattle.model.specs.declared.Clock.{Clock}
 use Rattle.model.specs.declared.Answer.{Answer}
+use Rattle.model.specs.declared.Ground.{Ground}
 use Rattle.model.specs.declared.Step.{Step}
 use Rattle.model.specs.declared.Step.the-variants.{Read, Write, Waitcnt, Idle, Fetch, Restart, Instruction, Pc, Latch}
 
@@ -112,15 +114,28 @@ unfolding run clockPast
 run-clock m s [] = refl
 run-clock m s (x ∷ xs) = run-clock m (stepped m s x) xs
 
+-- with one step more
+pub clock-snoc : (c : Clock) (xs : List Step) (x : Step) → clockPast c (xs ++ x ∷ []) ≡ clockAfter (clockPast c xs) x
+unfolding clockPast
+clock-snoc c [] x = refl
+clock-snoc c (y ∷ xs) x = clock-snoc (clockAfter c y) xs x
+
+pub grounds-snoc : (c : Clock) (xs : List Step) (x : Step)
+    → groundsAfter c (xs ++ x ∷ []) ≡ groundsAfter c xs ++ groundsOf (clockPast c xs) x ∷ []
+unfolding groundsAfter clockPast
+grounds-snoc c [] x = refl
+grounds-snoc c (y ∷ xs) x = ap (λ (gs : List (List Ground)). groundsOf c y ∷ gs) (grounds-snoc (clockAfter c y) xs x)
+
 -- ---- one clock, and steps that take the same time from every clock
 
--- what a step shows of its time, and the clock that it leaves
+-- what a step shows of its time, the clock that it leaves, and the grounds of its price
 pub record Shown : Type 0 where
   pub answer : Answer
   pub clock : Clock
+  pub grounds : List Ground
 
 abbrev pub shown : Clock → Step → Shown
-shown c x = record { answer = foretold c x; clock = clockAfter c x }
+shown c x = record { answer = foretold c x; clock = clockAfter c x; grounds = groundsOf c x }
 
 abbrev pub SameTime : Step → Step → Type 0
 SameTime x y = (c : Clock) → shown c x ≡ shown c y
@@ -140,3 +155,12 @@ previews-alike c (x ∷ xs) [] s = absurd s
 previews-alike c (x ∷ xs) (y ∷ ys) s =
     ap (λ (t : Shown). t .answer ∷ previewed (t .clock) xs) (s .0 c)
     ∙ ap (λ (zs : List Answer). foretold c y ∷ zs) (previews-alike (clockAfter c y) xs ys (s .1))
+
+pub grounds-alike : (c : Clock) (xs ys : List Step) → SameTimes xs ys → groundsAfter c xs ≡ groundsAfter c ys
+unfolding groundsAfter
+grounds-alike c [] [] s = refl
+grounds-alike c [] (y ∷ ys) s = absurd s
+grounds-alike c (x ∷ xs) [] s = absurd s
+grounds-alike c (x ∷ xs) (y ∷ ys) s =
+    ap (λ (t : Shown). t .grounds ∷ groundsAfter (t .clock) xs) (s .0 c)
+    ∙ ap (λ (gs : List (List Ground)). groundsOf c y ∷ gs) (grounds-alike (clockAfter c y) xs ys (s .1))

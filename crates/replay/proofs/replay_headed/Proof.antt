@@ -32,8 +32,8 @@ part-rom-end c = fifth (c .before .before .before .before) .at-most5 .ensures
 part-answers-end : tie.Need-part-answers-end
 part-answers-end c = last (c .before .before .before .before .before) .before .before .at-most6 .ensures
 
-part-shares-end : tie.Need-part-shares-end
-part-shares-end c = last (c .before .before .before .before .before .before) .at-most7 .ensures
+part-second-end : tie.Need-part-second-end
+part-second-end c = last (c .before .before .before .before .before .before) .at-most7 .ensures
 
 pub replay-headed-spec : {M : Type 1} → statement M
 replay-headed-spec =
@@ -78,6 +78,6 @@ replay-headed-spec =
     part-answers-end
     (λ c. search needs)
     (λ c. zero-le)
-    part-shares-end
+    part-second-end
     (λ c κs. search needs)
     (λ c. search needs))
