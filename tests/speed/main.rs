@@ -62,7 +62,7 @@ fn program(rounds: usize) -> Result<bool, String> {
     }
     let good = slower.is_empty() && growing.is_empty();
     if good {
-        println!("no slower than the Rust on the four sorts in both tables, no cost grows, and no tariff, preview or ground is too dear");
+        println!("no slower than the Rust on the four sorts in both tables, no cost grows, no tariff, preview or grounds dear");
     }
     Ok(good)
 }

@@ -28,7 +28,7 @@ const RATE: u32 = 307;
 /// The board that each run starts from.
 const FRESH: [u8; BOARD] = [0; BOARD];
 
-/// Fills answers, and shares or grounds, before a run, so that none is left there from the run before: the last byte of each is 0.
+/// Fills answers, and shares or grounds, before a run, so that none is left there from the run before: each ends in a byte 0.
 const NO_ANSWER: u8 = 0xA5;
 
 // ---- a run ----
@@ -173,7 +173,8 @@ impl Side for Grounded {
         let grounded: [bool; 1 + LATCH as usize] = std::array::from_fn(|kind| matches!(kind as u8, READ | WRITE | INSTRUCTION));
         let kinds = lent.sheet[HEADER..].chunks_exact(RECORD).map(|record| usize::from(record[0]));
         let good = |(kind, grounds): (usize, &[u8])| {
-            (grounds[0] != 0) == grounded[kind] && grounds[0] <= 9 && grounds[1] <= 9 && grounds[2..].iter().all(|&byte| byte == 0)
+            let known = grounds[0] <= 9 && grounds[1] <= 9 && grounds[2..].iter().all(|&byte| byte == 0);
+            known && (grounds[0] != 0) == grounded[kind]
         };
         if kinds.zip(lent.second.chunks_exact(GROUNDS)).all(good) {
             return Ok(());

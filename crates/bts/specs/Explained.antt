@@ -1,5 +1,5 @@
--- What the run with grounds gives back, as the definitions have it; and that an accepted run's answers tell the pass over them what
--- it asks.
+-- What the run with grounds gives back, as the definitions have it; and that an accepted run's answers tell the pass over them
+-- what it asks.
 use mathlib.Core.Path.{_≡_, refl, sym, ap, ap₂, _∙_}
 use mathlib.Core.Logic.{_≢_}
 use mathlib.Core.Bool.{true, false, _&&_}
@@ -62,8 +62,8 @@ some-kind r f =
 -- no step but WRITE stores
 stores-nothing : (m : Media) (s : State) (r : SheetRecord) → r .kind ≢ 2 → (changed m s (stepOf r)) .puts ≡ []
 stores-nothing m s r =
-    by-kind (λ (k : ℕ) (x : Step). k ≢ 2 → (changed m s x) .puts ≡ []) r (λ h. refl) (λ h. absurd (h refl)) (λ h. refl) (λ h. refl)
-    (λ h. refl) (λ h. refl) (λ h. refl) (λ h. refl) (λ o h. refl)
+    by-kind (λ (k : ℕ) (x : Step). k ≢ 2 → (changed m s x) .puts ≡ []) r (λ h. refl) (λ h. absurd (h refl)) (λ h. refl)
+    (λ h. refl) (λ h. refl) (λ h. refl) (λ h. refl) (λ h. refl) (λ o h. refl)
 
 -- an answer, in the bytes, shows what its step does to the clock
 shows-answer : (m : Media) (s : State) (r : SheetRecord) (b : List ℕ) (k : ℕ) → ReadBack b k (answer m s (stepOf r))
@@ -125,7 +125,8 @@ module _ (e : Explaining) (yes : groundsVerdict e ≡ Accepted) where
 
     -- with the grounds told it is the accepted one
     pub explained-from : {c : Clock} {told : List ℕ} → c ≡ clockOf (e .run .board)
-        → told ≡ groundsBytes (groundsAfter c (stepsTo (e .run .sheet) (r .index))) ++ drop (groundsLength * r .index) (e .grounds)
+        → told
+        ≡ groundsBytes (groundsAfter c (stepsTo (e .run .sheet) (r .index))) ++ drop (groundsLength * r .index) (e .grounds)
         → reportedGrounds r board store answers told ≡ explainBy e Accepted
     unfolding runGrounds
     explained-from {c} {told} q w x =
@@ -134,5 +135,6 @@ module _ (e : Explaining) (yes : groundsVerdict e ≡ Accepted) where
           grounds =
               (w
               ∙ ap₂ (λ (d : Clock) (n : ℕ).
-              groundsBytes (groundsAfter d (stepsTo (e .run .sheet) n)) ++ drop (groundsLength * n) (e .grounds)) q records-here) x;
+              groundsBytes (groundsAfter d (stepsTo (e .run .sheet) n)) ++ drop (groundsLength * n) (e .grounds)) q
+              records-here) x;
         }

@@ -155,7 +155,10 @@ module _ (t : Tariffed) (yes : tariffVerdict t ≡ Accepted) where
       payable =
           record {
             most = asked .rate .most;
-            few = rw (← outcome-here) at (total-fits (t .run) lent (sym (ap (λ (o : Outcome). o .number) outcome-here) ∙ no-refusal (t .run) run-accepts ran-is));
+            few =
+                rw (← outcome-here)
+                at (total-fits (t .run) lent
+                (sym (ap (λ (o : Outcome). o .number) outcome-here) ∙ no-refusal (t .run) run-accepts ran-is));
           }
 
       pub billable : Billable (r .index) (r .total) (t .rate) answers (t .shares)

@@ -240,7 +240,8 @@ pub extern "C" fn bts_run_tariff(
     )
 }
 
-// The same with the grounds of each step's price: the run, and then the grounds, from the clock that it began with and its answers.
+// The same with the grounds of each step's price: the run, and then the grounds, from the clock that it began with and from its
+// answers.
 fn explain_accepted(
     sheet: &[u8],
     board: &mut [u8],
@@ -251,8 +252,8 @@ fn explain_accepted(
     grounds: &mut [u8],
     lengths: Lengths,
 ) -> Report
-    requires { ⌜ groundsVerdict (explaining (lending (now sheet) (now board) (now store) (now bios) (now rom) (now answers) lengths)
-        (now grounds)) ≡ Accepted ⌝ }
+    requires { ⌜ groundsVerdict (explaining (lending (now sheet) (now board) (now store) (now bios) (now rom) (now answers)
+        lengths) (now grounds)) ≡ Accepted ⌝ }
     ensures { λ r. ⌜ reportedGrounds r (now (board .exit)) (now (store .exit)) (now (answers .exit)) (now (grounds .exit))
         ≡ explainBy (explaining (lending (now (sheet .entry)) (now (board .entry)) (now (store .entry)) (now (bios .entry))
         (now (rom .entry)) (now (answers .entry)) lengths) (now (grounds .entry))) Accepted ⌝ }

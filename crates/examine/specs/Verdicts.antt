@@ -2,32 +2,33 @@
 -- what an accepted sheet's tests say of its numbers.
 use mathlib.Core.Path.{_≡_, refl, sym, ap, _∙_}
 use mathlib.Core.Bool.{Bool, true, false, not, _&&_}
-use mathlib.Core.List.{List, _++_}
+use mathlib.Core.List.{List, [], _++_}
 use Prim.Native.Nat.{ℕ, _+_, _*_, _≤_, _<_}
 use native.Mathlib.Omega.{arith}
 use lib.ListN.{length}
-use lib.Dec.{eqb, ltb, leb, lit<}
+use lib.Dec.{eqb, ltb, leb}
 use borrow.Author.Tests.{eqb-true, leb-true, lt-ltb, le-ltb, not-true, not-false}
 use Rattle.model.specs.Base.{AllBytes}
 use Rattle.model.specs.Memory.{lengthsSum}
 use Rattle.model.specs.Sheet.{isShaped, maxRecords, recordStart, recordCount, recordsFrom, leastFaulty}
 use Rattle.model.specs.BoardBytes.{boardLength, answerLength, clockOf}
 use Rattle.model.specs.Outcome.{Lent, Row, row, byRow, firstRow, sheetRows, lengthsRows, boardRows, answersRows}
-use Rattle.model.specs.Outcome.{roomRows, faultIndex, recordsRows}
+use Rattle.model.specs.Outcome.{roomRows, faultIndex, recordsRows, secondRows, verdictNumber}
 use Rattle.model.specs.Outcome.{sizesFit, verdict, refusalIndex, Outcome, outcomeBy, outcome}
 use Rattle.model.specs.Laws.Places.{sizesSmall, Sized, small-sized}
-use Rattle.model.specs.Tariff.{Tariffed, Billed, tariffVerdict, billBy, bill}
-use Rattle.model.specs.Grounds.{Explaining, Explained, groundsVerdict, explainBy, explain}
+use Rattle.model.specs.Tariff.{shareLength, Tariffed, rateRows, tariffVerdict}
+use Rattle.model.specs.Grounds.{groundsLength, Explaining, groundsVerdict}
 use Rattle.model.specs.Preview.{Asked, noMemories, lentWith, previewVerdict}
 use Rattle.model.specs.Laws.Choice.{parts, or-true-right, or-false}
 use Rattle.model.specs.Laws.Sound.{SoundClock}
 use Rattle.model.specs.Laws.Codec.{sound-formed}
-use Rattle.model.specs.Laws.Rows.{orElse, row-holds, row-passes, first-append, accepts-none}
+use Rattle.model.specs.Laws.Rows.{Decides, Rising, orElse, row-holds, row-passes, first-append, accepts-none, decided}
 use Rattle.model.specs.Laws.Refusal.{NoFault, FirstFault, Acceptable, accepted-acceptable, table, Index, index}
 use Rattle.model.specs.Laws.Fits.{sound-clock}
-use Rattle.model.specs.Laws.Billed.{tariff-table, tariff-index}
+use Rattle.model.specs.Laws.Second.{fault-told}
+use Rattle.model.specs.Laws.Billed as billed
 use Rattle.model.specs.Laws.Previewed.{bare-verdict}
-use Rattle.model.specs.Laws.Explained.{grounds-table, grounds-index}
+use Rattle.model.specs.Laws.Explained as explained
 use Rattle.model.specs.declared.Lengths.{Lengths}
 use Rattle.model.specs.declared.Refusal.{Refusal}
 use Rattle.model.specs.declared.Refusal.the-variants.{BadMark, BadVersion, BadShape, BadLengths}
@@ -182,23 +183,25 @@ index-small i r e =
     rw (ap (λ (x : Outcome). x .index) o)
     at (few-faulty (i .sheet) _ _ (index i) (((table i) .records .0 seven) .1 .1 .0) seven)
 
-pub tariff-index-small : (t : Tariffed) (r : Refusal) → tariffVerdict t ≡ Refused r → refusalIndex r ≤ maxRecords
-unfolding bill
-tariff-index-small t r e =
+-- that of a table with a second buffer, with whatever rows behind it
+second-small : (i : Lent) (each second : ℕ) (more : List Row) (r : Refusal) → Rising 0 (secondRows i each second ++ more)
+    → firstRow (secondRows i each second ++ more) ≡ Refused r → refusalIndex r ≤ maxRecords
+second-small i each second more r rising e =
     small-index r λ k z.
-    let o : bill t ≡ billBy t (Refused (FaultyRecord k)) = ap (billBy t) (e ∙ ap (λ (q : Refusal). Refused q) z) in
-    let seven : (bill t) .run .number ≡ 7 = ap (λ (x : Billed). x .run .number) o in
-    rw (ap (λ (x : Billed). x .run .index) o)
-    at (few-faulty (t .run .sheet) _ _ (tariff-index t) (((tariff-table t) .row 6 (lit< tt) .0 seven) .1 .1 .0) seven)
+    let rs = secondRows i each second ++ more in
+    let v : firstRow rs ≡ Refused (FaultyRecord k) = e ∙ ap (λ (q : Refusal). Refused q) z in
+    let d : Decides rs 6 = (decided 0 rs rising 6 (omega arith)) .0 (ap verdictNumber v) in
+    let f : FirstFault (i .sheet) k = rw v at (fault-told i each second more d) in
+    omega (arith, f .within, (shaped (i .sheet) (not-false (isShaped (i .sheet)) (d .1 .1 .0))) .few)
+
+pub tariff-index-small : (t : Tariffed) (r : Refusal) → tariffVerdict t ≡ Refused r → refusalIndex r ≤ maxRecords
+unfolding tariffVerdict
+tariff-index-small t r e =
+    second-small (t .run) shareLength (length (t .shares)) (rateRows (t .rate)) r (billed.rising t) e
 
 pub grounds-index-small : (e : Explaining) (r : Refusal) → groundsVerdict e ≡ Refused r → refusalIndex r ≤ maxRecords
-unfolding explain
-grounds-index-small e r v =
-    small-index r λ k z.
-    let o : explain e ≡ explainBy e (Refused (FaultyRecord k)) = ap (explainBy e) (v ∙ ap (λ (q : Refusal). Refused q) z) in
-    let seven : (explain e) .run .number ≡ 7 = ap (λ (x : Explained). x .run .number) o in
-    rw (ap (λ (x : Explained). x .run .index) o)
-    at (few-faulty (e .run .sheet) _ _ (grounds-index e) (((grounds-table e) .row 6 (lit< tt) .0 seven) .1 .1 .0) seven)
+unfolding groundsVerdict
+grounds-index-small e r v = second-small (e .run) groundsLength (length (e .grounds)) [] r (explained.rising e) v
 
 -- a preview's is that of a run over no memories
 pub preview-index-small : (q : Asked) (r : Refusal) → previewVerdict q ≡ Refused r → refusalIndex r ≤ maxRecords

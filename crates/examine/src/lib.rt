@@ -282,8 +282,8 @@ pub fn examine_grounds(
     grounds: &[u8],
     lengths: Lengths,
 ) -> Verdict
-    ensures { λ r. ⌜ r ≡ reasons.groundsVerdict (explaining (lending (now (sheet .entry)) (now (board .entry)) (now (store .entry))
-        (now (bios .entry)) (now (rom .entry)) (now (answers .entry)) lengths) (now (grounds .entry))) ⌝ }
+    ensures { λ r. ⌜ r ≡ reasons.groundsVerdict (explaining (lending (now (sheet .entry)) (now (board .entry))
+        (now (store .entry)) (now (bios .entry)) (now (rom .entry)) (now (answers .entry)) lengths) (now (grounds .entry))) ⌝ }
 {
     let room = grounds.len();
     examine_second(

@@ -27,7 +27,8 @@ use Rattle.model.specs.Laws.Previous.{SoundPrevious, there, rom-kind, some-size
 use Rattle.model.specs.Laws.Grounds.{busWindow, bus-window}
 use Rattle.model.specs.Laws.Rules.{hit-exactly}
 use Rattle.model.specs.Laws.Bounds.{SmallWaits, romWaits-small}
-use Rattle.model.specs.Laws.Sound.{Sound, SoundClock, ready-sound, tick1-sound, fetched-sound, setEnabled-sound, codeFetched-sound}
+use Rattle.model.specs.Laws.Sound.{Sound, SoundClock, ready-sound, tick1-sound, fetched-sound, setEnabled-sound}
+use Rattle.model.specs.Laws.Sound.{codeFetched-sound}
 use Rattle.model.specs.Laws.Commits.{ready-same, tick1-one, tick1-none}
 use Rattle.model.specs.declared.PrefetchBuffer.{PrefetchBuffer}
 use Rattle.model.specs.declared.Clock.{Clock}
@@ -194,7 +195,8 @@ code-fronts c h isa a s f = by (window a) refl
 -- ---- the grounds from the trail
 
 -- those of a fetch go by where the buffer hits
-half-same : (hits hits' : ℕ → Bool) (forced : Bool) (a : ℕ) → hits a ≡ hits' a → halfGround hits forced a ≡ halfGround hits' forced a
+half-same : (hits hits' : ℕ → Bool) (forced : Bool) (a : ℕ) → hits a ≡ hits' a
+    → halfGround hits forced a ≡ halfGround hits' forced a
 unfolding halfGround
 half-same hits hits' forced a e =
     ap (λ (b : Bool). if b then BufferHit else if forceNonseq a then ByBlock else if forced then ByFlag else Sequential) e

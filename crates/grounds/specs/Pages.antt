@@ -1,4 +1,5 @@
--- The digits of the pages: what they say of an address is what its bus says. A page's digits are one computed test over all pages.
+-- The digits of the pages: what they say of an address is what its bus says, by one computed test over all pages. And what beats
+-- are as bytes.
 use mathlib.Core.Path.{_≡_, refl, sym, ap, ap₂, _∙_}
 use mathlib.Core.Bool.{Bool, true, false, _&&_, _||_, true≢false, false≢true}
 use mathlib.Core.List.{List, [], _∷_}
@@ -127,7 +128,8 @@ unfolding isaState
 code-bytes size g h = by (eqb size 2)
   where
     by : (thumb : Bool)
-        → beatBytes (wide (codeSize (if thumb then Thumb else Arm)) g h) ≡ groundByte g ∷ (if thumb then 0 else groundByte h) ∷ zeros
+        → beatBytes (wide (codeSize (if thumb then Thumb else Arm)) g h)
+        ≡ groundByte g ∷ (if thumb then 0 else groundByte h) ∷ zeros
     by true = refl
     by false = refl
 

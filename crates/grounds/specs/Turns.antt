@@ -140,7 +140,8 @@ module _ {c : Clock} {n : ℕ} {sheet answers lent : List ℕ} (x : Explainable 
             (s .told
             ∙ ap₂ (λ (q : SheetRecord) (p : Before). beatsBy (q .kind) (q .size) (q .address) t p) er eb
             ∙ right .0)
-            ∙ put-next groundsLength k (groundsBytes (groundsAfter c (stepsTo sheet k))) lent (beatBytes (grounds d y)) (done-size k)
+            ∙ put-next groundsLength k (groundsBytes (groundsAfter c (stepsTo sheet k))) lent (beatBytes (grounds d y))
+            (done-size k)
             ∙ ap (λ (l : List ℕ). l ++ drop (groundsLength * (k + 1)) lent)
             (sym (blocks-snoc beatBytes (groundsAfter c (stepsTo sheet k)) (grounds d y))
             ∙ ap groundsBytes (sym (ap (groundsAfter c) (steps-snoc sheet k) ∙ grounds-snoc c (stepsTo sheet k) y)));

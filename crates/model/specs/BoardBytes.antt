@@ -6,7 +6,8 @@ use mathlib.Core.List.{List, [], _∷_, _++_}
 use Prim.Native.Nat.{ℕ, _+_, _-_, _*_, _/_, _%_}
 use lib.ListN.{length, replicate}
 use lib.Dec.{eqb, leb}
-use Rattle.model.specs.Base.{if_then_else_, bit, same, byteAt, number, numbersFrom, Field, field, encoded, numbersBytes, blocks}
+use Rattle.model.specs.Base.{if_then_else_, bit, same, byteAt, number, numbersFrom, Field, field, encoded, numbersBytes}
+use Rattle.model.specs.Base.{blocks}
 use Rattle.model.specs.Waitcnt.{prefetchEnable}
 use Rattle.model.specs.Wait.{inWindow}
 use Rattle.model.specs.Prefetch.{newBuffer}

@@ -1,5 +1,5 @@
--- `explain_accepted` meets its contract: the run accepts what is accepted here, and its answers, with the clock that it began with,
--- give the grounds. Assumes nothing.
+-- `explain_accepted` meets its contract: the run accepts what is accepted here, and its answers give the grounds, with the clock
+-- that it began with. Assumes nothing.
 use native.Mathlib.Omega.{arith}
 use borrow.Author.Needs.{needs}
 use Rattle.model.specs.Outcome.{LentBytes}

@@ -58,7 +58,8 @@ returns-2 c =
     let e = v .before .before in
     refused-explained (lent e) _
     (record { number = c .before .refusal-number .result; index = c .refusal-index .result; total = 0 })
-    (sym (e .examine-grounds .ensures) ∙ v .verdict .given .1) (c .before .refusal-number .ensures) (c .refusal-index .ensures) refl
+    (sym (e .examine-grounds .ensures) ∙ v .verdict .given .1) (c .before .refusal-number .ensures) (c .refusal-index .ensures)
+    refl
 
 pub explain-examined-spec : {M : Type 1} → statement M
 explain-examined-spec =

@@ -57,7 +57,8 @@ returns-2 c =
     let rom = sym (one .before .before .before .in-window .ensures) ∙ not-false _ (one .before .before .if1 .left) in
     let first = half-is hits (s .before .forced) (s .addr) (bytes3 c .before .ground-byte2 .ensures) (one .half-ground .ensures)
     (one .before .hits .ensures) in
-    let second = half-is hits false _ (bytes3 c .ground-byte3 .ensures) (two .half-ground2 .ensures) (two .before .hits2 .ensures) in
+    let second =
+    half-is hits false _ (bytes3 c .ground-byte3 .ensures) (two .half-ground2 .ensures) (two .before .hits2 .ensures) in
     ap₂ bytes first
     (c .unless .ensures
     ∙ ap (λ (n : ℕ). if eqb (s .size) 2 then 0 else n)

@@ -99,7 +99,8 @@ returns c =
     l .inv .written
     ∙ ap
     (λ (j : ℕ).
-    groundsBytes (groundsAfter (s .clock) (map stepOf (recordsFrom (s .sheet .now) 0 j))) ++ drop (groundsLength * j) (s .grounds .now))
+    groundsBytes (groundsAfter (s .clock) (map stepOf (recordsFrom (s .sheet .now) 0 j)))
+    ++ drop (groundsLength * j) (s .grounds .now))
     all
 
 pub put-grounds-spec : {M : Type 1} → statement M

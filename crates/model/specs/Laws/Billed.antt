@@ -20,8 +20,8 @@ use Rattle.model.specs.Tariff.{maxRate, cost, charge, chargeDown, shares
 use Rattle.model.specs.Tariff.{rateRows, tariffRows, tariffVerdict, billBy, bill}
 use Rattle.model.specs.Tariff.{shareAt, cyclesAt, cyclesTo, Bills, SameBill}
 use Rattle.model.specs.Laws.Choice.{by-test, never, eqb-ne, or-false-left, or-false-right}
-use Rattle.model.specs.Laws.Rows.{Decides, NoneHolds, Rising, numberAt, orElse, row-passes, first-append}
-use Rattle.model.specs.Laws.Rows.{none-accepts, none-of-both, next-decides, decided, undecided}
+use Rattle.model.specs.Laws.Rows.{TableOf, table-of, NoneHolds, Rising, orElse, row-passes, first-append}
+use Rattle.model.specs.Laws.Rows.{none-accepts, none-of-both, next-decides, undecided}
 use Rattle.model.specs.Laws.Rows.{at-most, zero-accepted}
 use Rattle.model.specs.Laws.Refusal.{by-number, Index, zero-index, Untouched, by-refusal}
 use Rattle.model.specs.Laws.Second.{Room, AcceptableWith, same-verdict, none-of-second, fault-told}
@@ -36,26 +36,19 @@ use Rattle.model.specs.declared.Verdict.the-variants.{Accepted, Refused}
 
 -- ---- the table
 
-rising : (t : Tariffed) → Rising 0 (tariffRows t)
+pub rising : (t : Tariffed) → Rising 0 (tariffRows t)
 rising t = (lit< tt, (lit< tt, (lit< tt, (lit< tt, (lit< tt, (lit< tt, (lit< tt, (lit< tt, tt))))))))
 
 number-is : (t : Tariffed) → (bill t) .run .number ≡ verdictNumber (firstRow (tariffRows t))
 unfolding bill tariffVerdict
 number-is t = by-number (t .run) (tariffVerdict t)
 
--- the number of row k exactly when its condition holds and no earlier one does; 0 exactly when none holds
-pub record TariffTable (t : Tariffed) (b : Billed) : Type 0 where
-  pub row : (k : ℕ) → k < 8 → Exactly (b .run .number ≡ numberAt (tariffRows t) k) (Decides (tariffRows t) k)
-  pub none : Exactly (b .run .number ≡ 0) (NoneHolds (tariffRows t))
+-- each number exactly when its row decides
+abbrev pub TariffTable : Tariffed → Billed → Type 0
+TariffTable t b = TableOf (tariffRows t) (b .run .number)
 
 pub tariff-table : (t : Tariffed) → TariffTable t (bill t)
-tariff-table t =
-    record {
-      row = λ k h.
-          let e = decided 0 (tariffRows t) (rising t) k h in
-          (λ x. e .0 (sym (number-is t) ∙ x), λ d. number-is t ∙ e .1 d);
-      none = (λ x. (undecided (tariffRows t)) .0 (sym (number-is t) ∙ x), λ d. number-is t ∙ (undecided (tariffRows t)) .1 d);
-    }
+tariff-table t = table-of (tariffRows t) (rising t) (number-is t)
 
 -- a run under a tariff makes none but these eight
 pub eight-refusals : (t : Tariffed) → (bill t) .run .number ≤ 8
@@ -93,7 +86,8 @@ unfolding bill tariffVerdict outcome verdict
 whole-run t r f =
     ap (outcomeBy (t .run))
     (first-append (secondRows (t .run) shareLength (length (t .shares))) (rateRows (t .rate))
-    ∙ ap (orElse (firstRow (secondRows (t .run) shareLength (length (t .shares))))) (row-passes _ Accepted (fair-passes (t .rate) f))
+    ∙ ap (orElse (firstRow (secondRows (t .run) shareLength (length (t .shares)))))
+    (row-passes _ Accepted (fair-passes (t .rate) f))
     ∙ or-else-accepted (firstRow (secondRows (t .run) shareLength (length (t .shares))))
     ∙ same-verdict (t .run) shareLength (length (t .shares)) r)
   where

@@ -18,7 +18,7 @@ use Rattle.model.specs.Grounds.{groundByte, grounds, groundsAfter, groun
 use Rattle.model.specs.Grounds.{Explained, groundsRows, groundsVerdict, runGrounds, explainBy, explain, groundsStart}
 use Rattle.model.specs.Grounds.{clockAt, stepAt, groundsAt, Explains, SameGrounds}
 use Rattle.model.specs.Laws.Choice.{All}
-use Rattle.model.specs.Laws.Rows.{Decides, NoneHolds, Rising, numberAt, none-accepts, decided, undecided, at-most, zero-accepted}
+use Rattle.model.specs.Laws.Rows.{TableOf, table-of, NoneHolds, Rising, none-accepts, undecided, at-most, zero-accepted}
 use Rattle.model.specs.Laws.Refusal.{by-number, Index, zero-index, Untouched, by-refusal}
 use Rattle.model.specs.Laws.Second.{Room, AcceptableWith, same-verdict, none-of-second, fault-told}
 use Rattle.model.specs.Laws.Codec.{OfWidth, blocks-length, block-there}
@@ -35,26 +35,19 @@ use Rattle.model.specs.declared.Step.the-variants.{Latch}
 
 -- ---- the table
 
-rising : (e : Explaining) → Rising 0 (groundsRows e)
+pub rising : (e : Explaining) → Rising 0 (groundsRows e)
 rising e = (lit< tt, (lit< tt, (lit< tt, (lit< tt, (lit< tt, (lit< tt, (lit< tt, tt)))))))
 
 number-is : (e : Explaining) → (explain e) .run .number ≡ verdictNumber (firstRow (groundsRows e))
 unfolding explain groundsVerdict
 number-is e = by-number (e .run) (groundsVerdict e)
 
--- the number of row k exactly when its condition holds and no earlier one does; 0 exactly when none holds
-pub record GroundsTable (e : Explaining) (x : Explained) : Type 0 where
-  pub row : (k : ℕ) → k < 7 → Exactly (x .run .number ≡ numberAt (groundsRows e) k) (Decides (groundsRows e) k)
-  pub none : Exactly (x .run .number ≡ 0) (NoneHolds (groundsRows e))
+-- each number exactly when its row decides
+abbrev pub GroundsTable : Explaining → Explained → Type 0
+GroundsTable e x = TableOf (groundsRows e) (x .run .number)
 
 pub grounds-table : (e : Explaining) → GroundsTable e (explain e)
-grounds-table e =
-    record {
-      row = λ k h.
-          let d = decided 0 (groundsRows e) (rising e) k h in
-          (λ x. d .0 (sym (number-is e) ∙ x), λ z. number-is e ∙ d .1 z);
-      none = (λ x. (undecided (groundsRows e)) .0 (sym (number-is e) ∙ x), λ z. number-is e ∙ (undecided (groundsRows e)) .1 z);
-    }
+grounds-table e = table-of (groundsRows e) (rising e) (number-is e)
 
 -- it makes none but the run's seven
 pub seven-refusals : (e : Explaining) → (explain e) .run .number ≤ 7
@@ -203,8 +196,9 @@ module _ (e : Explaining) (x : Explained) (ok : x ≡ explain e) (zero-number : 
 
 -- ---- demand 3's sentence for the grounds
 
-pub same-explained : (e f : Explaining) (x y : Explained) → x ≡ explain e → y ≡ explain f → x .run .number ≡ 0 → y .run .number ≡ 0
-    → AlikeSheets (e .run .sheet) (f .run .sheet) → AlikeBoards (e .run .board) (f .run .board) → SameGrounds e f x y
+pub same-explained : (e f : Explaining) (x y : Explained) → x ≡ explain e → y ≡ explain f → x .run .number ≡ 0
+    → y .run .number ≡ 0 → AlikeSheets (e .run .sheet) (f .run .sheet) → AlikeBoards (e .run .board) (f .run .board)
+    → SameGrounds e f x y
 same-explained e f x y p q ok ok' s b =
     record {
       times = demand3 (e .run) (f .run) (x .run) (y .run) (run-is e x p ok) (run-is f y q ok') ok ok' s b;

@@ -203,7 +203,8 @@ data-few : (p : Previous) (z : AccessSize) (a : ℕ) → Few (dataGrounds p z a)
 unfolding dataGrounds
 data-few p z a = bus-few z (firstGround p (aligned z a)) (busOf (decode a))
 
-fetch-few-in : (hits : ℕ → Bool) (forced : Bool) (a : ℕ) (isa : IsaState) (v : Windowed) → Few (fetchGroundsIn hits forced a isa v)
+fetch-few-in : (hits : ℕ → Bool) (forced : Bool) (a : ℕ) (isa : IsaState) (v : Windowed)
+    → Few (fetchGroundsIn hits forced a isa v)
 fetch-few-in hits forced a isa (In win) = wide-few (codeSize isa) (halfGround hits forced a) (halfGround hits false (further 2 a))
 fetch-few-in hits forced a isa Outside = omega arith
 
@@ -310,15 +311,21 @@ wide-test Word g h s t e d zero i = e i
 wide-test Word g h s t e d (suc zero) i = d i
 wide-test Word g h s t e d (suc (suc j)) i = refl
 
-bus-test : (z : AccessSize) (h : Ground) (t : Ground → Bool) → ((i : Ground) → sameGround h i ≡ t i) → (j : ℕ) (g : Ground) (b : Bus)
-    → isBeat (beatAt (dataGroundsOn z h b) j) g ≡ dataConditionOn z t j g b
-bus-test z h t e j g OnEwram = wide-test z EwramBus EwramBus (sameGround EwramBus) (sameGround EwramBus) (λ i. refl) (λ i. refl) j g
-bus-test z h t e j g OnVideo = wide-test z VideoBus VideoBus (sameGround VideoBus) (sameGround VideoBus) (λ i. refl) (λ i. refl) j g
-bus-test z h t e j g (OnRom win) = wide-test z h Sequential t (sameGround Sequential) e (λ i. refl) j g
-bus-test z h t e j g OnSram = wide-test Byte SramBus SramBus (sameGround SramBus) (sameGround SramBus) (λ i. refl) (λ i. refl) j g
-bus-test z h t e j g OnFast = wide-test Byte Fast Fast (sameGround Fast) (sameGround Fast) (λ i. refl) (λ i. refl) j g
+-- of one ground
+same-test : (z : AccessSize) (h : Ground) (j : ℕ) (i : Ground)
+    → isBeat (beatAt (wide z h h) j) i ≡ wideCondition z (sameGround h) (sameGround h) j i
+same-test z h = wide-test z h h (sameGround h) (sameGround h) (λ i. refl) (λ i. refl)
 
-data-test : (p : Previous) (z : AccessSize) (a j : ℕ) (g : Ground) → isBeat (beatAt (dataGrounds p z a) j) g ≡ dataCondition p z a j g
+bus-test : (z : AccessSize) (h : Ground) (t : Ground → Bool) → ((i : Ground) → sameGround h i ≡ t i) → (j : ℕ) (g : Ground)
+    (b : Bus) → isBeat (beatAt (dataGroundsOn z h b) j) g ≡ dataConditionOn z t j g b
+bus-test z h t e j g OnEwram = same-test z EwramBus j g
+bus-test z h t e j g OnVideo = same-test z VideoBus j g
+bus-test z h t e j g (OnRom win) = wide-test z h Sequential t (sameGround Sequential) e (λ i. refl) j g
+bus-test z h t e j g OnSram = same-test Byte SramBus j g
+bus-test z h t e j g OnFast = same-test Byte Fast j g
+
+data-test : (p : Previous) (z : AccessSize) (a j : ℕ) (g : Ground)
+    → isBeat (beatAt (dataGrounds p z a) j) g ≡ dataCondition p z a j g
 unfolding dataGrounds firstGround
 data-test p z a j g =
     let n = aligned z a in
@@ -355,7 +362,8 @@ found-beat : (b : BeatGround) (g : Ground) → isBeat b g ≡ true → b ≡ By 
 found-beat NoBeat g e = absurd (false≢true e)
 found-beat (By h) g e = ap By (one-byte h g (eqb-true (groundByte h) (groundByte g) e))
 
-pub named-exactly : (c : Clock) (x : Step) (j : ℕ) (g : Ground) → Exactly (beatAt (grounds c x) j ≡ By g) (condition c x j g ≡ true)
+pub named-exactly : (c : Clock) (x : Step) (j : ℕ) (g : Ground)
+    → Exactly (beatAt (grounds c x) j ≡ By g) (condition c x j g ≡ true)
 named-exactly c x j g = (
   λ h. sym (step-test c x j g) ∙ beat-found (beatAt (grounds c x) j) g h,
   λ h. found-beat (beatAt (grounds c x) j) g (step-test c x j g ∙ h),

@@ -81,7 +81,8 @@ steps-snoc sheet k =
     ∙ map-append stepOf (recordsFrom sheet 0 k) (recordAt sheet k ∷ [])
 
 -- the steps of the first k records
-pub steps-take : (sheet : List ℕ) (i k n : ℕ) → k ≤ n → take k (map stepOf (recordsFrom sheet i n)) ≡ map stepOf (recordsFrom sheet i k)
+pub steps-take : (sheet : List ℕ) (i k n : ℕ) → k ≤ n
+    → take k (map stepOf (recordsFrom sheet i n)) ≡ map stepOf (recordsFrom sheet i k)
 unfolding recordsFrom
 steps-take sheet i zero n h = refl
 steps-take sheet i (suc k) zero h = absurd (omega arith)

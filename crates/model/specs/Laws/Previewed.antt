@@ -10,7 +10,7 @@ use native.Mathlib.Omega.{arith}
 use lib.ListN.{length, drop}
 use lib.Dec.{eqb, lit<}
 use borrow.Author.Tests.{ne-eqb}
-use Rattle.model.specs.Base.{if_then_else_, sum, Exactly}
+use Rattle.model.specs.Base.{if_then_else_, sum}
 use Rattle.model.specs.Step.{cyclesIn, total}
 use Rattle.model.specs.Sheet.{recordCount, recordsFrom, recordsOf, stepOf, stepsOf}
 use Rattle.model.specs.BoardBytes.{answerLength, clockOf, answerBytes, answersBytes}
@@ -23,8 +23,8 @@ use Rattle.model.specs.Preview.{Memories, noMemories, lentWith, zeroed, 
 use Rattle.model.specs.Laws.Kinds.{by-kind}
 use Rattle.model.specs.Laws.Times.{blanked, eachStep, run-blanked, run-total}
 use Rattle.model.specs.Laws.Limits.{preview-limits, records-length}
-use Rattle.model.specs.Laws.Rows.{Decides, NoneHolds, Rising, numberAt, left-out}
-use Rattle.model.specs.Laws.Rows.{refused-number, decided, undecided, zero-accepted}
+use Rattle.model.specs.Laws.Rows.{TableOf, table-of, Rising, left-out}
+use Rattle.model.specs.Laws.Rows.{refused-number, zero-accepted}
 use Rattle.model.specs.Laws.Refusal.{Index, index, by-number, table, seven-refusals}
 use Rattle.model.specs.Laws.Fits.{answers-count}
 use Rattle.model.specs.Laws.Demand3.{same-preview}
@@ -146,19 +146,12 @@ number-is q = by (previewVerdict q)
 rising : (q : Asked) → Rising 0 (previewRows q)
 rising q = (lit< tt, (lit< tt, (lit< tt, (lit< tt, (lit< tt, (lit< tt, tt))))))
 
--- the number of row k exactly when its condition holds and no earlier one does; 0 exactly when none holds
-pub record PreviewTable (q : Asked) (p : Previewed) : Type 0 where
-  pub row : (k : ℕ) → k < 6 → Exactly (p .number ≡ numberAt (previewRows q) k) (Decides (previewRows q) k)
-  pub none : Exactly (p .number ≡ 0) (NoneHolds (previewRows q))
+-- each number exactly when its row decides
+abbrev pub PreviewTable : Asked → Previewed → Type 0
+PreviewTable q p = TableOf (previewRows q) (p .number)
 
 pub preview-table : (q : Asked) → PreviewTable q (preview q)
-preview-table q =
-    record {
-      row = λ k h.
-          let e = decided 0 (previewRows q) (rising q) k h in
-          (λ x. e .0 (sym (number-is q) ∙ x), λ d. number-is q ∙ e .1 d);
-      none = (λ x. (undecided (previewRows q)) .0 (sym (number-is q) ∙ x), λ d. number-is q ∙ (undecided (previewRows q)) .1 d);
-    }
+preview-table q = table-of (previewRows q) (rising q) (number-is q)
 
 -- a preview makes none but the run's seven, and no 4
 pub six-refusals : (q : Asked) → ((preview q) .number ≤ 7) × ((preview q) .number ≢ 4)

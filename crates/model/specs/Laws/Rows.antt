@@ -184,3 +184,16 @@ zero-accepted (Refused q) h = absurd (refused-number q h)
 -- it has number 0 exactly when no row holds
 pub undecided : (rs : List Row) → Exactly (verdictNumber (firstRow rs) ≡ 0) (NoneHolds rs)
 undecided rs = (λ h. accepts-none rs (zero-accepted (firstRow rs) h), λ h. ap verdictNumber (none-accepts rs h))
+
+-- what a table says of the number that an operation gives: row k's exactly when its condition holds and no earlier one does, 0
+-- exactly when none holds
+pub record TableOf (rs : List Row) (number : ℕ) : Type 0 where
+  pub row : (k : ℕ) → k < length rs → Exactly (number ≡ numberAt rs k) (Decides rs k)
+  pub none : Exactly (number ≡ 0) (NoneHolds rs)
+
+pub table-of : (rs : List Row) → Rising 0 rs → {number : ℕ} → number ≡ verdictNumber (firstRow rs) → TableOf rs number
+table-of rs rising e =
+    record {
+      row = λ k h. let d = decided 0 rs rising k h in (λ x. d .0 (sym e ∙ x), λ z. e ∙ d .1 z);
+      none = (λ x. (undecided rs) .0 (sym e ∙ x), λ z. e ∙ (undecided rs) .1 z);
+    }

@@ -59,7 +59,8 @@ module _ (i : Lent) (each second : ℕ) where
           let e = long-enough .0 (h .1 .1 .1 .1 .1 .0) in
           record {
             run =
-                none-acceptable i (h .0, (h .1 .0, (h .1 .1 .0, (h .1 .1 .1 .0, (h .1 .1 .1 .1 .0, (e .0, h .1 .1 .1 .1 .1 .1))))));
+                none-acceptable i
+                (h .0, (h .1 .0, (h .1 .1 .0, (h .1 .1 .1 .0, (h .1 .1 .1 .1 .0, (e .0, h .1 .1 .1 .1 .1 .1))))));
             room = e .1;
           }
 
