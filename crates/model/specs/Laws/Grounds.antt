@@ -1,5 +1,5 @@
--- The grounds of a step (W-206): their cycles and the internal cycle make the step's cycles; each is named exactly when its
--- condition decides the beat; a step has at most two; and a byte says which ground it is.
+-- The grounds of a step (W-206): a byte says which ground it is; each is named exactly when its condition decides the beat; their
+-- cycles and the internal cycle make the step's cycles; and a step has at most two.
 use mathlib.Core.Path.{_≡_, refl, sym, ap, ap₂, _∙_}
 use mathlib.Core.Logic.{_≢_}
 use mathlib.Core.Bool.{Bool, true, false, _&&_, true≢false, false≢true}
@@ -43,6 +43,152 @@ use Rattle.model.specs.declared.IsaState.{IsaState}
 use Rattle.model.specs.declared.IsaState.the-variants.{Arm, Thumb}
 use Rattle.model.specs.declared.Step.{Step}
 use Rattle.model.specs.declared.Step.the-variants.{Read, Write, Waitcnt, Idle, Fetch, Restart, Instruction, Pc, Latch}
+
+-- ---- a byte says which ground it is
+
+pub byte-back : (g : Ground) → beatGround (groundByte g) ≡ By g
+unfolding beatGround
+byte-back BufferHit = refl
+byte-back Sequential = refl
+byte-back ByFlag = refl
+byte-back ByBlock = refl
+byte-back ByAddress = refl
+byte-back EwramBus = refl
+byte-back SramBus = refl
+byte-back VideoBus = refl
+byte-back Fast = refl
+
+-- so two grounds with one byte are one
+pub one-byte : (g h : Ground) → groundByte g ≡ groundByte h → g ≡ h
+one-byte g h e = by-ground (sym (byte-back g) ∙ ap beatGround e ∙ byte-back h)
+  where
+    by-ground : By g ≡ By h → g ≡ h
+    by-ground d = cc
+
+-- ---- each is named exactly when its condition decides the beat
+
+-- whether a beat has a ground
+abbrev isBeat : BeatGround → Ground → Bool
+isBeat NoBeat g = false
+isBeat (By h) g = sameGround h g
+
+-- a test of the nine grounds, all at once
+abbrev everyGround : (Ground → Bool) → Bool
+everyGround t =
+    (t BufferHit && (t Sequential && t ByFlag))
+    && ((t ByBlock && (t ByAddress && t EwramBus)) && (t SramBus && (t VideoBus && t Fast)))
+
+each-ground : (t : Ground → Bool) → everyGround t ≡ true → (g : Ground) → t g ≡ true
+each-ground t e BufferHit = search parts
+each-ground t e Sequential = search parts
+each-ground t e ByFlag = search parts
+each-ground t e ByBlock = search parts
+each-ground t e ByAddress = search parts
+each-ground t e EwramBus = search parts
+each-ground t e SramBus = search parts
+each-ground t e VideoBus = search parts
+each-ground t e Fast = search parts
+
+same-true : (a b : Bool) → same a b ≡ true → a ≡ b
+same-true true true e = refl
+same-true true false e = absurd (false≢true e)
+same-true false true e = absurd (false≢true e)
+same-true false false e = refl
+
+-- a ground whose condition is computed for all nine
+computed : (h : Ground) (t : Ground → Bool) → everyGround (λ (g : Ground). same (sameGround h g) (t g)) ≡ true
+    → (g : Ground) → sameGround h g ≡ t g
+computed h t e g = same-true (sameGround h g) (t g) (each-ground (λ (i : Ground). same (sameGround h i) (t i)) e g)
+
+half-test : (hits block forced : Bool) (g : Ground)
+    → sameGround (if hits then BufferHit else if block then ByBlock else if forced then ByFlag else Sequential) g
+    ≡ halfCondition hits block forced g
+half-test true block forced = computed BufferHit (halfCondition true block forced) refl
+half-test false true forced = computed ByBlock (halfCondition false true forced) refl
+half-test false false true = computed ByFlag (halfCondition false false true) refl
+half-test false false false = computed Sequential (halfCondition false false false) refl
+
+first-test : (block : Bool) (k : AccessKind) (g : Ground)
+    → sameGround (if block then ByBlock else kindGround k) g ≡ firstCondition block k g
+first-test true k = computed ByBlock (firstCondition true k) refl
+first-test false Nonseq = computed ByAddress (firstCondition false Nonseq) refl
+first-test false Seq = computed Sequential (firstCondition false Seq) refl
+
+plain-test : (a : ℕ) (g : Ground) → sameGround (plainGround a) g ≡ plainCondition a g
+unfolding plainGround
+plain-test a g = choose₂ (λ (h : Ground) (t : Bool). sameGround h g ≡ t) (eqb (page a) 0x02) (λ e. refl) (λ e. refl)
+
+-- one beat or two
+wide-test : (z : AccessSize) (g h : Ground) (s t : Ground → Bool) → ((i : Ground) → sameGround g i ≡ s i)
+    → ((i : Ground) → sameGround h i ≡ t i) → (j : ℕ) (i : Ground)
+    → isBeat (beatAt (wide z g h) j) i ≡ wideCondition z s t j i
+wide-test Byte g h s t e d zero i = e i
+wide-test Byte g h s t e d (suc zero) i = refl
+wide-test Byte g h s t e d (suc (suc j)) i = refl
+wide-test Half g h s t e d zero i = e i
+wide-test Half g h s t e d (suc zero) i = refl
+wide-test Half g h s t e d (suc (suc j)) i = refl
+wide-test Word g h s t e d zero i = e i
+wide-test Word g h s t e d (suc zero) i = d i
+wide-test Word g h s t e d (suc (suc j)) i = refl
+
+-- of one ground
+same-test : (z : AccessSize) (h : Ground) (j : ℕ) (i : Ground)
+    → isBeat (beatAt (wide z h h) j) i ≡ wideCondition z (sameGround h) (sameGround h) j i
+same-test z h = wide-test z h h (sameGround h) (sameGround h) (λ i. refl) (λ i. refl)
+
+bus-test : (z : AccessSize) (h : Ground) (t : Ground → Bool) → ((i : Ground) → sameGround h i ≡ t i) → (j : ℕ) (g : Ground)
+    (b : Bus) → isBeat (beatAt (dataGroundsOn z h b) j) g ≡ dataConditionOn z t j g b
+bus-test z h t e j g OnEwram = same-test z EwramBus j g
+bus-test z h t e j g OnVideo = same-test z VideoBus j g
+bus-test z h t e j g (OnRom win) = wide-test z h Sequential t (sameGround Sequential) e (λ i. refl) j g
+bus-test z h t e j g OnSram = same-test Byte SramBus j g
+bus-test z h t e j g OnFast = same-test Byte Fast j g
+
+data-test : (p : Previous) (z : AccessSize) (a j : ℕ) (g : Ground)
+    → isBeat (beatAt (dataGrounds p z a) j) g ≡ dataCondition p z a j g
+unfolding dataGrounds firstGround
+data-test p z a j g =
+    let n = aligned z a in
+    bus-test z (firstGround p n) (firstCondition (forceNonseq n) (kindAfter p n)) (first-test (forceNonseq n) (kindAfter p n)) j g
+    (busOf (decode a))
+
+fetch-test : (hits : ℕ → Bool) (forced : Bool) (isa : IsaState) (a j : ℕ) (g : Ground) (v : Windowed)
+    → isBeat (beatAt (fetchGroundsIn hits forced a isa v) j) g ≡ fetchConditionIn hits forced isa a j g v
+unfolding halfGround
+fetch-test hits forced isa a j g (In win) =
+    wide-test (codeSize isa) (halfGround hits forced a) (halfGround hits false (further 2 a))
+    (halfCondition (hits a) (forceNonseq a) forced) (halfCondition (hits (further 2 a)) (forceNonseq (further 2 a)) false)
+    (half-test (hits a) (forceNonseq a) forced) (half-test (hits (further 2 a)) (forceNonseq (further 2 a)) false) j g
+fetch-test hits forced isa a j g Outside =
+    wide-test Byte (plainGround a) (plainGround a) (plainCondition a) (plainCondition a) (plain-test a) (plain-test a) j g
+
+step-test : (c : Clock) (x : Step) (j : ℕ) (g : Ground) → isBeat (beatAt (grounds c x) j) g ≡ condition c x j g
+unfolding fetchGrounds
+step-test c (Read z a) j g = data-test (previous c) z a j g
+step-test c (Write z a v) j g = data-test (previous c) z a j g
+step-test c (Waitcnt v) j g = refl
+step-test c (Idle n) j g = refl
+step-test c (Fetch a) j g = refl
+step-test c (Restart a) j g = refl
+step-test c (Instruction isa a op jump) j g = fetch-test (hit (c .prefetch)) (c .«force_next_fetch_n») isa a j g (window a)
+step-test c (Pc a) j g = refl
+step-test c (Latch v) j g = refl
+
+-- a beat has a ground exactly when the test finds it
+beat-found : (b : BeatGround) (g : Ground) → b ≡ By g → isBeat b g ≡ true
+beat-found b g e = ap (λ (x : BeatGround). isBeat x g) e ∙ eq-eqb (groundByte g) (groundByte g) refl
+
+found-beat : (b : BeatGround) (g : Ground) → isBeat b g ≡ true → b ≡ By g
+found-beat NoBeat g e = absurd (false≢true e)
+found-beat (By h) g e = ap By (one-byte h g (eqb-true (groundByte h) (groundByte g) e))
+
+pub named-exactly : (c : Clock) (x : Step) (j : ℕ) (g : Ground)
+    → Exactly (beatAt (grounds c x) j ≡ By g) (condition c x j g ≡ true)
+named-exactly c x j g = (
+  λ h. sym (step-test c x j g) ∙ beat-found (beatAt (grounds c x) j) g h,
+  λ h. found-beat (beatAt (grounds c x) j) g (step-test c x j g ∙ h),
+)
 
 -- ---- a data access: its beats cost what their grounds do
 
@@ -222,149 +368,3 @@ few-grounds c (Restart a) = omega arith
 few-grounds c (Instruction isa a op jump) = fetch-few (hit (c .prefetch)) (c .«force_next_fetch_n») isa a
 few-grounds c (Pc a) = omega arith
 few-grounds c (Latch v) = omega arith
-
--- ---- a byte says which ground it is
-
-pub byte-back : (g : Ground) → beatGround (groundByte g) ≡ By g
-unfolding beatGround
-byte-back BufferHit = refl
-byte-back Sequential = refl
-byte-back ByFlag = refl
-byte-back ByBlock = refl
-byte-back ByAddress = refl
-byte-back EwramBus = refl
-byte-back SramBus = refl
-byte-back VideoBus = refl
-byte-back Fast = refl
-
--- so two grounds with one byte are one
-pub one-byte : (g h : Ground) → groundByte g ≡ groundByte h → g ≡ h
-one-byte g h e = by-ground (sym (byte-back g) ∙ ap beatGround e ∙ byte-back h)
-  where
-    by-ground : By g ≡ By h → g ≡ h
-    by-ground d = cc
-
--- ---- each is named exactly when its condition decides the beat
-
--- whether a beat has a ground
-abbrev isBeat : BeatGround → Ground → Bool
-isBeat NoBeat g = false
-isBeat (By h) g = sameGround h g
-
--- a test of the nine grounds, all at once
-abbrev everyGround : (Ground → Bool) → Bool
-everyGround t =
-    (t BufferHit && (t Sequential && t ByFlag))
-    && ((t ByBlock && (t ByAddress && t EwramBus)) && (t SramBus && (t VideoBus && t Fast)))
-
-each-ground : (t : Ground → Bool) → everyGround t ≡ true → (g : Ground) → t g ≡ true
-each-ground t e BufferHit = search parts
-each-ground t e Sequential = search parts
-each-ground t e ByFlag = search parts
-each-ground t e ByBlock = search parts
-each-ground t e ByAddress = search parts
-each-ground t e EwramBus = search parts
-each-ground t e SramBus = search parts
-each-ground t e VideoBus = search parts
-each-ground t e Fast = search parts
-
-same-true : (a b : Bool) → same a b ≡ true → a ≡ b
-same-true true true e = refl
-same-true true false e = absurd (false≢true e)
-same-true false true e = absurd (false≢true e)
-same-true false false e = refl
-
--- a ground whose condition is computed for all nine
-computed : (h : Ground) (t : Ground → Bool) → everyGround (λ (g : Ground). same (sameGround h g) (t g)) ≡ true
-    → (g : Ground) → sameGround h g ≡ t g
-computed h t e g = same-true (sameGround h g) (t g) (each-ground (λ (i : Ground). same (sameGround h i) (t i)) e g)
-
-half-test : (hits block forced : Bool) (g : Ground)
-    → sameGround (if hits then BufferHit else if block then ByBlock else if forced then ByFlag else Sequential) g
-    ≡ halfCondition hits block forced g
-half-test true block forced = computed BufferHit (halfCondition true block forced) refl
-half-test false true forced = computed ByBlock (halfCondition false true forced) refl
-half-test false false true = computed ByFlag (halfCondition false false true) refl
-half-test false false false = computed Sequential (halfCondition false false false) refl
-
-first-test : (block : Bool) (k : AccessKind) (g : Ground)
-    → sameGround (if block then ByBlock else kindGround k) g ≡ firstCondition block k g
-first-test true k = computed ByBlock (firstCondition true k) refl
-first-test false Nonseq = computed ByAddress (firstCondition false Nonseq) refl
-first-test false Seq = computed Sequential (firstCondition false Seq) refl
-
-plain-test : (a : ℕ) (g : Ground) → sameGround (plainGround a) g ≡ plainCondition a g
-unfolding plainGround
-plain-test a g = choose₂ (λ (h : Ground) (t : Bool). sameGround h g ≡ t) (eqb (page a) 0x02) (λ e. refl) (λ e. refl)
-
--- one beat or two
-wide-test : (z : AccessSize) (g h : Ground) (s t : Ground → Bool) → ((i : Ground) → sameGround g i ≡ s i)
-    → ((i : Ground) → sameGround h i ≡ t i) → (j : ℕ) (i : Ground)
-    → isBeat (beatAt (wide z g h) j) i ≡ wideCondition z s t j i
-wide-test Byte g h s t e d zero i = e i
-wide-test Byte g h s t e d (suc zero) i = refl
-wide-test Byte g h s t e d (suc (suc j)) i = refl
-wide-test Half g h s t e d zero i = e i
-wide-test Half g h s t e d (suc zero) i = refl
-wide-test Half g h s t e d (suc (suc j)) i = refl
-wide-test Word g h s t e d zero i = e i
-wide-test Word g h s t e d (suc zero) i = d i
-wide-test Word g h s t e d (suc (suc j)) i = refl
-
--- of one ground
-same-test : (z : AccessSize) (h : Ground) (j : ℕ) (i : Ground)
-    → isBeat (beatAt (wide z h h) j) i ≡ wideCondition z (sameGround h) (sameGround h) j i
-same-test z h = wide-test z h h (sameGround h) (sameGround h) (λ i. refl) (λ i. refl)
-
-bus-test : (z : AccessSize) (h : Ground) (t : Ground → Bool) → ((i : Ground) → sameGround h i ≡ t i) → (j : ℕ) (g : Ground)
-    (b : Bus) → isBeat (beatAt (dataGroundsOn z h b) j) g ≡ dataConditionOn z t j g b
-bus-test z h t e j g OnEwram = same-test z EwramBus j g
-bus-test z h t e j g OnVideo = same-test z VideoBus j g
-bus-test z h t e j g (OnRom win) = wide-test z h Sequential t (sameGround Sequential) e (λ i. refl) j g
-bus-test z h t e j g OnSram = same-test Byte SramBus j g
-bus-test z h t e j g OnFast = same-test Byte Fast j g
-
-data-test : (p : Previous) (z : AccessSize) (a j : ℕ) (g : Ground)
-    → isBeat (beatAt (dataGrounds p z a) j) g ≡ dataCondition p z a j g
-unfolding dataGrounds firstGround
-data-test p z a j g =
-    let n = aligned z a in
-    bus-test z (firstGround p n) (firstCondition (forceNonseq n) (kindAfter p n)) (first-test (forceNonseq n) (kindAfter p n)) j g
-    (busOf (decode a))
-
-fetch-test : (hits : ℕ → Bool) (forced : Bool) (isa : IsaState) (a j : ℕ) (g : Ground) (v : Windowed)
-    → isBeat (beatAt (fetchGroundsIn hits forced a isa v) j) g ≡ fetchConditionIn hits forced isa a j g v
-unfolding halfGround
-fetch-test hits forced isa a j g (In win) =
-    wide-test (codeSize isa) (halfGround hits forced a) (halfGround hits false (further 2 a))
-    (halfCondition (hits a) (forceNonseq a) forced) (halfCondition (hits (further 2 a)) (forceNonseq (further 2 a)) false)
-    (half-test (hits a) (forceNonseq a) forced) (half-test (hits (further 2 a)) (forceNonseq (further 2 a)) false) j g
-fetch-test hits forced isa a j g Outside =
-    wide-test Byte (plainGround a) (plainGround a) (plainCondition a) (plainCondition a) (plain-test a) (plain-test a) j g
-
-step-test : (c : Clock) (x : Step) (j : ℕ) (g : Ground) → isBeat (beatAt (grounds c x) j) g ≡ condition c x j g
-unfolding fetchGrounds
-step-test c (Read z a) j g = data-test (previous c) z a j g
-step-test c (Write z a v) j g = data-test (previous c) z a j g
-step-test c (Waitcnt v) j g = refl
-step-test c (Idle n) j g = refl
-step-test c (Fetch a) j g = refl
-step-test c (Restart a) j g = refl
-step-test c (Instruction isa a op jump) j g = fetch-test (hit (c .prefetch)) (c .«force_next_fetch_n») isa a j g (window a)
-step-test c (Pc a) j g = refl
-step-test c (Latch v) j g = refl
-
--- a beat has a ground exactly when the test finds it
-beat-found : (b : BeatGround) (g : Ground) → b ≡ By g → isBeat b g ≡ true
-beat-found b g e = ap (λ (x : BeatGround). isBeat x g) e ∙ eq-eqb (groundByte g) (groundByte g) refl
-
-found-beat : (b : BeatGround) (g : Ground) → isBeat b g ≡ true → b ≡ By g
-found-beat NoBeat g e = absurd (false≢true e)
-found-beat (By h) g e = ap By (one-byte h g (eqb-true (groundByte h) (groundByte g) e))
-
-pub named-exactly : (c : Clock) (x : Step) (j : ℕ) (g : Ground)
-    → Exactly (beatAt (grounds c x) j ≡ By g) (condition c x j g ≡ true)
-named-exactly c x j g = (
-  λ h. sym (step-test c x j g) ∙ beat-found (beatAt (grounds c x) j) g h,
-  λ h. found-beat (beatAt (grounds c x) j) g (step-test c x j g ∙ h),
-)
