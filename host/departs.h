@@ -10,7 +10,7 @@
 
 typedef bool departs(const struct seen *seen);
 
-/* departs_data.c: READ and WRITE, what they give and what they cost */
+/* departs_data.c: READ and WRITE, and the words of blocks: what they give and what they cost */
 departs open_bus, unused_io, dead_io_word, dead_io_half, live_io, io_store, halt, control_start, control_waits, control_map;
 departs control_bits, waits_by_store, waits_by_load, empty_cartridge, other_chips, closed_bios, closed_at_start, bios_gate;
 departs unaligned_word, unaligned_half, two_areas, video_conflict, store_past_sram, sequential_data, row_goes_on, buffered_data;

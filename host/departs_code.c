@@ -95,13 +95,14 @@ bool coprocessor(const struct seen *s) {
     return is_arm(s) && MATCHES(opcodes, s->value);
 }
 
-static bool is_pop(const struct seen *s) {
-    return is_thumb(s) && (s->value & 0xFE00) == 0xBC00;
+/* POP under version 1, which looks for it elsewhere. Version 2 finds it. */
+static bool unfound_pop(const struct seen *s) {
+    return s->version == BTS_VERSION_1 && is_thumb(s) && (s->value & 0xFE00) == 0xBC00;
 }
 
 /* POP, and what is taken for it. */
 bool pop(const struct seen *s) {
-    return is_pop(s) || (is_thumb(s) && (s->value & 0xFE00) == 0xBA00);
+    return unfound_pop(s) || (s->version == BTS_VERSION_1 && is_thumb(s) && (s->value & 0xFE00) == 0xBA00);
 }
 
 /* MUL; LDSB, and LDR, LDRH, LDRB and LDSH by register; LDRB and LDRH by immediate. */
@@ -162,7 +163,7 @@ bool force_kept(const struct seen *s) {
 }
 
 bool force_not_set(const struct seen *s) {
-    bool unfound = long_multiply(s) || narrow_load(s) || is_pop(s) || thumb_loads(s) || thumb_shifts(s);
+    bool unfound = long_multiply(s) || narrow_load(s) || unfound_pop(s) || thumb_loads(s) || thumb_shifts(s);
     return code_in_rom(s) && !s->before.on && !s->jumps && unfound;
 }
 

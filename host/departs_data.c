@@ -1,4 +1,4 @@
-/* The lines of docs/DIFFERENCES.md that touch READ and WRITE. */
+/* The lines of docs/DIFFERENCES.md that touch READ and WRITE. The words of a block are seen as these. */
 #include "departs.h"
 
 #define IO_AT(offset) (0x04000000u + (offset))
@@ -256,11 +256,12 @@ bool no_mode(const struct seen *s) {
 
 /* ---- prices, and the prefetch beside them */
 
-/* It goes on where the previous access ended, and begins no block. Only in ROM is that another price. */
+/* It goes on where the previous access ended, and begins no block. Only in ROM is that another price. Within a BLOCK READ or BLOCK
+ * WRITE there is nothing to mark: what one LDM or STM accesses behind its first word is sequential by the data sheet too. */
 bool sequential_data(const struct seen *s) {
     uint32_t lowered = s->address & ~(uint32_t)(s->size - 1);
     bool follows = s->before.previous_size > 0 && s->before.previous_address + s->before.previous_size == lowered;
-    return accesses(s) && s->area == AT_ROM && follows && !begins_block(lowered);
+    return accesses(s) && !s->inside && s->area == AT_ROM && follows && !begins_block(lowered);
 }
 
 /* A step that is no access stands between the two; or what stood there isn't seen, since the first is the lent board's. Where a

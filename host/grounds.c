@@ -27,6 +27,33 @@ void grounds_text(const uint8_t *grounds, size_t k, char text[GROUNDS_TEXT_ROOM]
     }
 }
 
+/* How many beats from `beat` on have the ground of that one. */
+static size_t same_from(const uint8_t *grounds, size_t k, size_t beat) {
+    size_t beats = bts_ground_beats(grounds, k);
+    size_t end = beat;
+    while (end < beats && bts_ground_at(grounds, k, end) == bts_ground_at(grounds, k, beat)) {
+        end++;
+    }
+    return end - beat;
+}
+
+void grounds_short_text(const uint8_t *grounds, size_t k, char text[GROUNDS_TEXT_ROOM]) {
+    size_t beats = bts_ground_beats(grounds, k);
+    size_t len = 0;
+    text[0] = '\0';
+    for (size_t beat = 0; beat < beats;) {
+        size_t same = same_from(grounds, k, beat);
+        const char *name = bts_ground_name(bts_ground_at(grounds, k, beat)), *blank = beat > 0 ? " " : "";
+        if (same > 2) {
+            len += (size_t)snprintf(text + len, GROUNDS_TEXT_ROOM - len, "%s%zux %s", blank, same, name);
+        } else {
+            len += (size_t)snprintf(text + len, GROUNDS_TEXT_ROOM - len, "%s%s", blank, name);
+            same = 1;
+        }
+        beat += same;
+    }
+}
+
 const char *ground_says(uint32_t ground) {
     return says[ground];
 }

@@ -30,6 +30,12 @@ static const struct form forms[] = {
      .kind = BTS_PC, .has_address = true},
     {.name = "LATCH", .operands = "VALUE", .says = "sets what loads of the closed BIOS give",
      .kind = BTS_LATCH, .value_name = "value", .value_most = NUMBER_MOST},
+    {.name = "BLOCKREAD", .operands = "ADDRESS WORDS", .says = "a load of 1 to 16 words (VERSION 2)",
+     .kind = BTS_BLOCK_READ, .size = 4, .has_address = true, .value_name = "words", .value_least = 1,
+     .value_most = BTS_MOST_WORDS, .in_decimal = true, .since = BTS_VERSION_2},
+    {.name = "BLOCKWRITE", .operands = "ADDRESS WORDS", .says = "a store of 1 to 16 words, each 0 (VERSION 2)",
+     .kind = BTS_BLOCK_WRITE, .size = 4, .has_address = true, .value_name = "words", .value_least = 1,
+     .value_most = BTS_MOST_WORDS, .in_decimal = true, .since = BTS_VERSION_2},
 };
 
 const struct form *form_at(size_t i) {
@@ -41,12 +47,12 @@ static char capital(char c) {
     return c >= 'a' && c <= 'z' ? (char)(c - 'a' + 'A') : c;
 }
 
-static bool is_name(const char *name, size_t len, const char *capitals) {
-    if (len != strlen(capitals)) {
+bool is_word(const char *text, size_t len, const char *word) {
+    if (len != strlen(word)) {
         return false;
     }
     for (size_t i = 0; i < len; i++) {
-        if (capital(name[i]) != capitals[i]) {
+        if (capital(text[i]) != word[i]) {
             return false;
         }
     }
@@ -55,7 +61,7 @@ static bool is_name(const char *name, size_t len, const char *capitals) {
 
 const struct form *form_by_name(const char *name, size_t len) {
     for (size_t i = 0; form_at(i) != NULL; i++) {
-        if (is_name(name, len, forms[i].name)) {
+        if (is_word(name, len, forms[i].name)) {
             return &forms[i];
         }
     }

@@ -15,15 +15,20 @@ struct form {
     bool has_size;          /* the size is an operand: 1, 2 or 4 */
     bool has_address;
     bool has_pc;            /* may end in `pc`: the instruction changed the pc */
-    bool in_decimal;        /* shown in decimal, since it is a number of cycles */
+    bool in_decimal;        /* shown in decimal, since it is a number of cycles or words */
     const char *value_name; /* what the value is called; NULL where the form has none */
+    uint32_t value_least;   /* the smallest value */
     uint32_t value_most;    /* the largest value; where the size is an operand, the size lowers it */
     uint8_t kind;           /* the record's kind */
     uint8_t size;           /* the record's size where it is no operand */
+    uint8_t since;          /* the first version of sheets that has it; 0 where every one has */
 };
 
 /* Form i, from 0; NULL behind the last. */
 const struct form *form_at(size_t i);
+
+/* Whether these characters are the word, which is given in capitals; they may be in capitals or not. */
+bool is_word(const char *text, size_t len, const char *word);
 
 /* The form whose mnemonic is these characters, in capitals or not; NULL if there is none. */
 const struct form *form_by_name(const char *name, size_t len);

@@ -3,7 +3,9 @@
 #include "landed.h"
 
 #include <stdio.h>
+#include <string.h>
 
+#include "blocks.h"
 #include "kinds.h"
 #include "map.h"
 #include "say.h"
@@ -16,7 +18,7 @@ struct stored {
     uint32_t landed; /* that a memory took */
 };
 
-static struct stored stored_of(const uint8_t *record, bts_answer answer) {
+static struct stored stored_of(const uint8_t *record, uint32_t landed) {
     uint32_t address = bts_get32(record + 4);
     enum area area = area_of(address);
     uint32_t bytes = record[1] == 1 && (area == AT_PALETTE || area == AT_VRAM) ? 2 : record[1];
@@ -24,26 +26,37 @@ static struct stored stored_of(const uint8_t *record, bts_answer answer) {
         .area = area,
         .first = area == AT_SRAM ? address : address & ~(bytes - 1),
         .bytes = bytes,
-        .landed = answer.hits,
+        .landed = landed,
     };
 }
 
-static bool is_store(const struct account *account, size_t k) {
-    return account->records[BTS_RECORD_SIZE * k] == BTS_WRITE;
+static const uint8_t *record_of(const struct account *account, size_t k) {
+    return account->records + BTS_RECORD_SIZE * k;
 }
 
-/* Whether step k is a store that landed short; `stored` is then what became of it. */
-static bool is_short(const struct account *account, size_t k, struct stored *stored) {
-    if (!is_store(account, k)) {
-        return false;
-    }
-    *stored = stored_of(account->records + BTS_RECORD_SIZE * k, bts_answer_at(account->answers, k));
-    return stored->landed < stored->bytes;
+static bool is_store(const struct account *account, size_t k) {
+    uint8_t kind = record_of(account, k)[0];
+    return kind == BTS_WRITE || kind == BTS_BLOCK_WRITE;
+}
+
+static uint32_t landed_of(const struct account *account, size_t k) {
+    return bts_answer_at(account->answers, k).hits;
+}
+
+/* What step k, a store, has to give: a block, what each of its words has. */
+static uint32_t bytes_of(const struct account *account, size_t k) {
+    uint8_t first[BTS_RECORD_SIZE];
+    part_at(record_of(account, k), 0, first);
+    return parts_of(record_of(account, k)) * stored_of(first, 0).bytes;
+}
+
+static bool is_short(const struct account *account, size_t k) {
+    return is_store(account, k) && landed_of(account, k) < bytes_of(account, k);
 }
 
 /* ---- reasons */
 
-enum { REASON_ROOM = 80 };
+enum { REASON_ROOM = 80, REASONS_ROOM = 4 * REASON_ROOM };
 
 static const char *without_memory(enum area area) {
     return area == AT_BIOS ? "BIOS is read only" : area == AT_ROM ? "ROM is read only" : "no memory there";
@@ -71,22 +84,55 @@ static void reason_of(const struct stored *s, const size_t lengths[MEMORIES], ch
     }
 }
 
+/* How many bytes of a word of a block landed. The answer has the sum of them alone; but a word loses bytes for its place and for
+ * no other reason, so each of them can be told from that. */
+static uint32_t word_landed(const uint8_t *word, const size_t lengths[MEMORIES]) {
+    struct place place;
+    if (!place_of(bts_get32(word + 4), &place) || place.offset >= lengths[place.memory]) {
+        return 0;
+    }
+    size_t left = lengths[place.memory] - place.offset;
+    return place.memory == SRAM ? 1 : left < 4 ? (uint32_t)left : 4;
+}
+
+/* The reasons of the words of a block that landed short, each once. They lie in two memories at most, so there are few. */
+static void reasons_of_block(const uint8_t *record, const size_t lengths[MEMORIES], char text[REASONS_ROOM]) {
+    text[0] = '\0';
+    for (uint32_t i = 0; i < parts_of(record); i++) {
+        uint8_t word[BTS_RECORD_SIZE];
+        char reason[REASON_ROOM];
+        part_at(record, i, word);
+        struct stored stored = stored_of(word, word_landed(word, lengths));
+        reason_of(&stored, lengths, reason);
+        if (stored.landed < stored.bytes && strstr(text, reason) == NULL) {
+            size_t len = strlen(text);
+            snprintf(text + len, REASONS_ROOM - len, "%s%s", len > 0 ? "; " : "", reason);
+        }
+    }
+}
+
 /* ---- lines */
 
-static void tell_store(size_t k, const uint8_t *record, const struct stored *s, const size_t lengths[MEMORIES]) {
+static void tell_store(const struct account *account, size_t k, const size_t lengths[MEMORIES]) {
+    const uint8_t *record = record_of(account, k);
+    uint32_t landed = landed_of(account, k), bytes = bytes_of(account, k);
     char step[STEP_TEXT_ROOM];
-    char reason[REASON_ROOM];
+    char reasons[REASONS_ROOM];
     step_text(record, step);
-    reason_of(s, lengths, reason);
-    fprintf(stderr, "  step %zu: %s: %lu of %lu byte%s landed: %s\n", k, step, (unsigned long)s->landed,
-            (unsigned long)s->bytes, s->bytes == 1 ? "" : "s", reason);
+    if (is_block(record)) {
+        reasons_of_block(record, lengths, reasons);
+    } else {
+        struct stored stored = stored_of(record, landed);
+        reason_of(&stored, lengths, reasons);
+    }
+    fprintf(stderr, "  step %zu: %s: %lu of %lu byte%s landed: %s\n", k, step, (unsigned long)landed, (unsigned long)bytes,
+            bytes == 1 ? "" : "s", reasons);
 }
 
 static void tell_stores(const struct account *account, const size_t lengths[MEMORIES]) {
-    struct stored stored;
     for (size_t k = 0; k < account->count; k++) {
-        if (is_short(account, k, &stored)) {
-            tell_store(k, account->records + BTS_RECORD_SIZE * k, &stored, lengths);
+        if (is_short(account, k)) {
+            tell_store(account, k, lengths);
         }
     }
 }
@@ -94,10 +140,9 @@ static void tell_stores(const struct account *account, const size_t lengths[MEMO
 void tell_short(const struct account *account, const size_t lengths[MEMORIES], bool by_name) {
     size_t stores = 0;
     size_t shorts = 0;
-    struct stored stored;
     for (size_t k = 0; k < account->count; k++) {
         stores += is_store(account, k);
-        shorts += is_short(account, k, &stored);
+        shorts += is_short(account, k);
     }
     if (shorts == 0) {
         return;

@@ -24,7 +24,10 @@ struct reader {
     const char *file;
     unsigned long line;
     unsigned faults;
-    bool full; /* a step was met for which there is no memory left */
+    bool full;        /* a step was met for which there is no memory left */
+    uint32_t version; /* of the sheet that is made */
+    bool versioned;   /* a VERSION line was met */
+    bool begun;       /* a line was met that is to be a step */
     const struct form *form;
     struct word words[WORDS_MOST];
     size_t count; /* words of the line */
@@ -100,12 +103,18 @@ static bool take_size(struct reader *reader, uint8_t *size) {
 static bool take_value(struct reader *reader, struct step *step) {
     const struct form *form = reader->form;
     uint32_t most = form_value_most(form, step->size);
-    char of[32];
-    if (!form->has_size) {
-        return take_number(reader, form->value_name, form->name, most, &step->value);
+    char of[32], text[SHOWN_ROOM];
+    size_t at = reader->next;
+    if (form->has_size) {
+        snprintf(of, sizeof of, "%s %u", form->name, (unsigned)step->size);
+    } else {
+        snprintf(of, sizeof of, "%s", form->name);
     }
-    snprintf(of, sizeof of, "%s %u", form->name, (unsigned)step->size);
-    return take_number(reader, form->value_name, of, most, &step->value);
+    if (!take_number(reader, form->value_name, of, most, &step->value)) {
+        return false;
+    }
+    return step->value >= form->value_least || fault(reader, "%s %s of %s is under %lu", form->value_name,
+                                                     shown(reader->words[at], text), of, (unsigned long)form->value_least);
 }
 
 /* `pc`, if it stands there, in capitals or not. */
@@ -137,6 +146,40 @@ static bool take_operands(struct reader *reader, struct step *step) {
                                                   shown(reader->words[reader->next], text), form->name, form->operands);
 }
 
+/* ---- the version */
+
+/* A version that there is, of the word behind VERSION; 0 if it is none. */
+static uint32_t known_version(struct word word) {
+    uint64_t version;
+    bool known = read_number(word.at, word.len, &version) && version >= BTS_VERSION_1 && version <= BTS_VERSION_2;
+    return known ? (uint32_t)version : 0;
+}
+
+/* A VERSION line, which makes no record. A listing says by itself for which sheets it is, so that it means the same to whoever
+ * runs it. Where the line is bad the rest is read as of the version that it asks for, or else of the newest, so that no step is
+ * told for it besides. */
+static bool read_version(struct reader *reader) {
+    static const char write[] = "write VERSION 1 or VERSION 2";
+    char text[SHOWN_ROOM];
+    uint32_t version = reader->count > 1 ? known_version(reader->words[1]) : 0;
+    bool again = reader->versioned;
+    reader->versioned = true;
+    reader->version = version != 0 ? version : BTS_VERSION_2;
+    if (again) {
+        return fault(reader, "VERSION stands twice: leave one of the two out");
+    }
+    if (reader->begun) {
+        return fault(reader, "VERSION stands behind a step: put it before the first one");
+    }
+    if (reader->count == 1) {
+        return fault(reader, "VERSION has no number: %s", write);
+    }
+    if (version == 0) {
+        return fault(reader, "there are no sheets of version %s: %s", shown(reader->words[1], text), write);
+    }
+    return reader->count == 2 || fault(reader, "%s is too much: %s", shown(reader->words[2], text), write);
+}
+
 /* ---- lines */
 
 /* Up to the sixth word; a comment ends the line. */
@@ -156,12 +199,15 @@ static void split(struct reader *reader, const char *line, size_t len) {
     }
 }
 
+/* The steps that are named are those of the listing's version. */
 static bool fault_unknown(struct reader *reader, struct word word) {
     char text[SHOWN_ROOM];
     char names[200] = "";
     for (size_t i = 0; form_at(i) != NULL; i++) {
         size_t len = strlen(names);
-        snprintf(names + len, sizeof names - len, "%s%s", i > 0 ? ", " : "", form_at(i)->name);
+        if (form_at(i)->since <= reader->version) {
+            snprintf(names + len, sizeof names - len, "%s%s", i > 0 ? ", " : "", form_at(i)->name);
+        }
     }
     return fault(reader, "%s is no step; the steps are %s", shown(word, text), names);
 }
@@ -175,6 +221,22 @@ static bool is_text(struct reader *reader, const char *line, size_t len) {
         return fault(reader, "the line has a NUL byte");
     }
     return memchr(line, '\r', len) == NULL || fault(reader, "the line has a carriage return that doesn't end it");
+}
+
+/* The step of the line that was split. */
+static bool read_step(struct reader *reader, struct step *step) {
+    reader->begun = true;
+    reader->form = form_by_name(reader->words[0].at, reader->words[0].len);
+    if (reader->form == NULL) {
+        return fault_unknown(reader, reader->words[0]);
+    }
+    unsigned since = reader->form->since;
+    if (since > reader->version) {
+        return fault(reader, "%s is a step of version %u sheets: begin the listing with VERSION %u", reader->form->name, since,
+                     since);
+    }
+    reader->next = 1;
+    return take_operands(reader, step);
 }
 
 /* Whether the line has a step. A bad line has none and is told. */
@@ -191,12 +253,11 @@ static bool read_line(struct reader *reader, const char *line, size_t len, struc
     if (reader->count == 0) {
         return false;
     }
-    reader->form = form_by_name(reader->words[0].at, reader->words[0].len);
-    if (reader->form == NULL) {
-        return fault_unknown(reader, reader->words[0]);
+    if (is_word(reader->words[0].at, reader->words[0].len, "VERSION")) {
+        read_version(reader);
+        return false; /* it has no step, good or bad */
     }
-    reader->next = 1;
-    return take_operands(reader, step);
+    return read_step(reader, step);
 }
 
 /* ---- the sheet */
@@ -250,7 +311,7 @@ static bool read_lines(struct reader *reader, const char *at, size_t len, struct
 
 bool assemble(const char *file, const uint8_t *text, size_t len, struct bytes *sheet) {
     static const char utf8_mark[3] = "\xEF\xBB\xBF"; /* some editors put it in front of a text */
-    struct reader reader = {.file = file};
+    struct reader reader = {.file = file, .version = BTS_VERSION};
     if (len > LISTING_MOST) {
         complain("%s is longer than %d bytes, which no listing is", file, LISTING_MOST);
         return false;
@@ -263,8 +324,6 @@ bool assemble(const char *file, const uint8_t *text, size_t len, struct bytes *s
     sheet->len = BTS_HEADER_SIZE;
     size_t start = len >= sizeof utf8_mark && memcmp(text, utf8_mark, sizeof utf8_mark) == 0 ? sizeof utf8_mark : 0;
     bool good = read_lines(&reader, (const char *)text + start, len - start, sheet);
-    if (sheet->len <= BTS_MOST_SHEET) {
-        bts_put_header(sheet->at, (uint32_t)((sheet->len - BTS_HEADER_SIZE) / BTS_RECORD_SIZE));
-    }
+    bts_put_header_of(sheet->at, reader.version, (uint32_t)((sheet->len - BTS_HEADER_SIZE) / BTS_RECORD_SIZE));
     return good;
 }

@@ -15,9 +15,9 @@ enum {
     FAULTS_MOST = 20                /* bad lines that are told before the rest is left unread */
 };
 
-/* Makes the sheet of a listing, to be freed by the caller: room for a header, and the records behind it. There may be more of
- * them than a sheet holds; then the header is no header. Each bad line is told on standard error, as FILE:LINE: what is wrong
- * with it; then the sheet is not to be used and false is given back. */
+/* Makes the sheet of a listing, to be freed by the caller: a header of the listing's version, and the records behind it. There may
+ * be more of them than a sheet holds; then of the header the version alone is right. Each bad line is told on standard error, as
+ * FILE:LINE: what is wrong with it; then the sheet is not to be used and false is given back. */
 bool assemble(const char *file, const uint8_t *text, size_t len, struct bytes *sheet);
 
 #endif

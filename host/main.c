@@ -109,10 +109,15 @@ static struct bytes sheet_of(const struct options *options, const struct job *jo
     return options->sheet != NULL ? job->inputs[IN_STEPS].bytes : job->sheet;
 }
 
+/* The version of the sheet. What is too short to have one is refused. */
+static uint32_t version_of(struct bytes sheet) {
+    return sheet.len >= BTS_HEADER_SIZE ? bts_sheet_version(sheet.at) : BTS_VERSION;
+}
+
 /* The steps of a listing, which may be more than a sheet holds. */
 static bts_report run_listing(const struct options *options, struct job *job) {
-    const uint8_t *records = job->sheet.at + BTS_HEADER_SIZE;
-    return (options->preview ? preview_records : run_records)(records, records_in(job->sheet.len), &job->machine, &job->room);
+    size_t steps = records_in(job->sheet.len);
+    return (options->preview ? preview_records : run_records)(job->sheet.at, steps, &job->machine, &job->room);
 }
 
 /* A sheet as it was read. */
@@ -217,7 +222,7 @@ static void tell_rest(const struct options *options, const struct job *job, cons
     if (!options->preview) {
         tell_short(account, job->machine.lengths, options->table);
     } else if (!options->table) {
-        tell_left_out();
+        tell_left_out(account);
     }
 }
 
@@ -226,9 +231,10 @@ static int price(const struct options *options, struct job *job) {
     if (!read_inputs(options, job) || !make_machine(options, job) || !make_rooms(options, job)) {
         return FAILED;
     }
-    trace_begin(&trace, &job->machine);
+    struct bytes sheet = sheet_of(options, job);
+    trace_begin(&trace, &job->machine, version_of(sheet));
     bts_bill bill = run(options, job);
-    const uint8_t *records = sheet_of(options, job).at + BTS_HEADER_SIZE;
+    const uint8_t *records = sheet.at + BTS_HEADER_SIZE;
     if (bill.number != BTS_OK) {
         tell_refusal(records, bill.number, bill.index);
         tell_cause(options, job, bill.number);
@@ -245,6 +251,7 @@ static int price(const struct options *options, struct job *job) {
         .count = bill.index,
         .total = bill.total,
         .charge = bill.charge,
+        .version = version_of(sheet),
         .trace = &trace,
         .preview = options->preview,
     };

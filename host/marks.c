@@ -114,12 +114,18 @@ static bool hangs_on_memories(size_t row) {
     return false;
 }
 
-void print_marks(const struct seen *seen, struct met *met) {
+void add_marks(const struct seen *seen, struct met *met) {
     for (size_t i = 0; i < MARKS; i++) {
         bool can_tell = !met->preview || !hangs_on_memories(i);
-        if (can_tell && marks[i].touches(seen)) {
+        met->row[i] = met->row[i] || (can_tell && marks[i].touches(seen));
+    }
+}
+
+void print_marks(const struct met *step, struct met *run) {
+    for (size_t i = 0; i < MARKS; i++) {
+        if (step->row[i]) {
             printf(" D-%u", marks[i].line);
-            met->row[i] = true;
+            run->row[i] = true;
         }
     }
 }

@@ -213,8 +213,12 @@ static void print_steps(void) {
     fputs("\nEach line of a listing is a step, or blank; # and ; begin a comment. "
           "Numbers are decimal, or hexadecimal behind 0x.\n\n", stdout);
     for (size_t i = 0; form_at(i) != NULL; i++) {
-        printf("  %-8s%-20s  %s\n", form_at(i)->name, form_at(i)->operands, form_at(i)->says);
+        printf("  %-11s%-20s  %s\n", form_at(i)->name, form_at(i)->operands, form_at(i)->says);
     }
+    fputs("\nA line VERSION 2 before the first step asks for sheets of version 2; without it, or with VERSION 1, they are of "
+          "version 1.\nVersion 2 has BLOCKREAD and BLOCKWRITE besides, which stand for as many word accesses one behind the "
+          "other, from the\naddress lowered to a multiple of 4; and it finds the internal cycle of Thumb POP at 0xBC and 0xBD, "
+          "where version 1 looks at\n0xBA and 0xBB. All else is the same.\n", stdout);
 }
 
 static void print_grounds(void) {
@@ -235,26 +239,29 @@ void print_help(void) {
     fputs("\nFor each step a line gives these, and behind the lines is the total of the cycles:\n\n"
           "  index    the step's number, from 0\n"
           "  cycles   what the step costs\n"
-          "  value    READ: the data; FETCH: the halfword, 0 on a miss; THUMB, ARM: cycles with the cartridge bus free; else 0\n"
-          "  hits     FETCH, THUMB, ARM: halfwords taken from the prefetch; WRITE: bytes that landed in a memory; else 0\n"
+          "  value    READ: the data; BLOCKREAD: the last word; FETCH: the halfword, 0 on a miss; THUMB, ARM: cycles with the\n"
+          "           cartridge bus free; else 0\n"
+          "  hits     FETCH, THUMB, ARM: halfwords taken from the prefetch; WRITE, BLOCKWRITE: bytes that landed in a memory; "
+          "else 0\n"
           "  count    halfwords that stand in the prefetch after the step\n"
           "  force    1: the next opcode fetch is nonsequential\n"
-          "  grounds  READ, WRITE, THUMB, ARM: why the step costs that, a word for each beat; else nothing\n",
+          "  grounds  READ, WRITE, BLOCKREAD, BLOCKWRITE, THUMB, ARM: why the step costs that, a word for each beat; else "
+          "nothing\n",
           stdout);
     print_grounds();
     fputs("\n"
           "A READ or WRITE in ROM that goes on where the READ or WRITE before it ended is sequential, but for the beginning of a "
           "block\nof 0x20000 bytes; any other is nonsequential in its first halfword. IDLE, PC and LATCH may stand between the "
-          "two; THUMB,\nARM, FETCH, RESTART and WAITCNT end such a row.\n"
+          "two; THUMB,\nARM, FETCH, RESTART and WAITCNT end such a row. Each word of a block is an access of a row.\n"
           "The table of -v has the step too, the sum of the cycles up to it, and the lines of docs/DIFFERENCES.md that touch "
-          "it.\n"
+          "it; three\nand more of a word in the grounds stand as in 31x seq.\n"
           "With --rate the charge stands behind the total: total * rate / 1000000 cents, rounded up to the cent and shown as "
           "money\n(307 cents are 3.07). The table then has the share of each step, and the shares add up to the charge. A "
           "charge is a\nsheet's, so at most 4096 steps can be billed.\n"
           "With --preview nothing is run and no memories are lent. What hangs on them is left out: the values of READ and FETCH "
-          "and\nthe hits of WRITE are 0 in the lines and - in the table, which has no lines of docs/DIFFERENCES.md that hang on "
-          "them. All\nelse is that of a run, whatever its memories. What is left out is said on standard error, and by -v in the "
-          "table.\n"
+          "and\nthe hits of WRITE (of BLOCKREAD and BLOCKWRITE too) are 0 in the lines and - in the table, which has no lines of\n"
+          "docs/DIFFERENCES.md that hang on them. All else is that of a run, whatever its memories. What is left out is said on\n"
+          "standard error, and by -v in the table.\n"
           "If a store landed short (fewer bytes in a memory than it had to give), a line on standard error counts such stores; "
           "with -v\nit is followed by each of them, with the reason.\n"
           "Nothing is written on an error. Exit status: 0 done; 1 refused by the run; 2 a bad line, option or file.\n",
@@ -262,7 +269,7 @@ void print_help(void) {
 }
 
 void print_version(void) {
-    printf("btsrun, with libbts %s (sheets of version %d)\n", BTS_LIBRARY_VERSION, BTS_VERSION);
+    printf("btsrun, with libbts %s (sheets of versions %d and %d)\n", BTS_LIBRARY_VERSION, BTS_VERSION_1, BTS_VERSION_2);
     printf("toolchain: %s\n", HOST_TOOLCHAIN);
     printf("ported from: %s\n", HOST_RUST);
 }

@@ -63,15 +63,15 @@ typedef bts_report do_piece(const uint8_t *sheet, size_t len, struct machine *ma
 
 /* The sum can't wrap: a piece's total is under 4,096 times 2^32, so 2^64 would take a million pieces, and a listing of 4 MiB has
  * some 200. No steps at all are one piece of none, so that what is lent is examined then too. */
-static bts_report in_pieces(do_piece *each, const uint8_t *records, size_t count, struct machine *machine,
-                            const struct room *room) {
+static bts_report in_pieces(do_piece *each, const uint8_t *all, size_t count, struct machine *machine, const struct room *room) {
     static uint8_t sheet[BTS_MOST_SHEET]; /* too large for some stacks */
+    const uint8_t *records = all + BTS_HEADER_SIZE;
     bts_report whole = {BTS_OK, 0, 0};
     do {
         size_t done = whole.index;
         size_t piece = count - done < BTS_MOST_RECORDS ? count - done : BTS_MOST_RECORDS;
         struct room rest = {room->answers + BTS_ANSWER_SIZE * done, room->grounds + BTS_GROUNDS_SIZE * done, NULL};
-        bts_put_header(sheet, (uint32_t)piece);
+        bts_put_header_of(sheet, bts_sheet_version(all), (uint32_t)piece);
         memcpy(sheet + BTS_HEADER_SIZE, records + BTS_RECORD_SIZE * done, BTS_RECORD_SIZE * piece);
         bts_report part = each(sheet, BTS_HEADER_SIZE + BTS_RECORD_SIZE * piece, machine, &rest);
         whole.index += part.index;
@@ -83,8 +83,8 @@ static bts_report in_pieces(do_piece *each, const uint8_t *records, size_t count
     return whole;
 }
 
-bts_report run_records(const uint8_t *records, size_t count, struct machine *machine, const struct room *room) {
-    return in_pieces(run_sheet, records, count, machine, room);
+bts_report run_records(const uint8_t *sheet, size_t count, struct machine *machine, const struct room *room) {
+    return in_pieces(run_sheet, sheet, count, machine, room);
 }
 
 /* ---- previews */
@@ -102,8 +102,8 @@ bts_report preview_sheet(const uint8_t *sheet, size_t len, struct machine *machi
     return report;
 }
 
-bts_report preview_records(const uint8_t *records, size_t count, struct machine *machine, const struct room *room) {
-    return in_pieces(preview_sheet, records, count, machine, room);
+bts_report preview_records(const uint8_t *sheet, size_t count, struct machine *machine, const struct room *room) {
+    return in_pieces(preview_sheet, sheet, count, machine, room);
 }
 
 /* Shares and charge follow from the cycles alone, so those of a run over no memories are those of any run, as its grounds are. It

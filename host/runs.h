@@ -32,8 +32,9 @@ struct account {
     size_t count;
     uint64_t total;
     uint64_t charge;     /* in cents */
+    uint32_t version;    /* of the sheet */
     struct trace *trace; /* what the first step started from */
-    bool preview;        /* values of READ and FETCH and hits of WRITE are left out, and are 0 */
+    bool preview;        /* values of READ, BLOCK READ and FETCH and hits of WRITE and BLOCK WRITE are left out, and are 0 */
 };
 
 /* How many records a sheet of `len` bytes has, if it is one that is accepted. */
@@ -46,9 +47,10 @@ bts_report run_sheet(const uint8_t *sheet, size_t len, struct machine *machine, 
  * that their sum might be too much. */
 bts_bill bill_sheet(const uint8_t *sheet, size_t len, struct machine *machine, const struct room *room, uint32_t rate);
 
-/* Runs `count` records in pieces. The report is as if a sheet had no limit: the index runs on through the pieces, and the total
- * is that of all. Behind a refusal, board and store are those of the pieces before it. */
-bts_report run_records(const uint8_t *records, size_t count, struct machine *machine, const struct room *room);
+/* Runs `count` records in pieces. They stand behind a header of which the version alone is looked at: each piece is a sheet of it.
+ * The report is as if a sheet had no limit: the index runs on through the pieces, and the total is that of all. Behind a refusal,
+ * board and store are those of the pieces before it. */
+bts_report run_records(const uint8_t *sheet, size_t count, struct machine *machine, const struct room *room);
 
 /* ---- previews: of the machine they take the board alone, whatever memories it has, and the board is then another */
 
@@ -58,7 +60,7 @@ bts_report preview_sheet(const uint8_t *sheet, size_t len, struct machine *machi
 /* The same with the shares and the charge of a run. */
 bts_bill preview_bill(const uint8_t *sheet, size_t len, struct machine *machine, const struct room *room, uint32_t rate);
 
-/* The preview of `count` records in pieces; the report is as for run_records. */
-bts_report preview_records(const uint8_t *records, size_t count, struct machine *machine, const struct room *room);
+/* The preview of `count` records in pieces; sheet and report are as for run_records. */
+bts_report preview_records(const uint8_t *sheet, size_t count, struct machine *machine, const struct room *room);
 
 #endif

@@ -3,6 +3,8 @@
 
 #include <string.h>
 
+#include "blocks.h"
+
 enum { OPCODE_BYTES_THUMB = 2, STORED_WAITS = 0x204, CONTROL = 0x800 };
 
 static const uint32_t io_page = 0x04000000;
@@ -62,9 +64,9 @@ static struct state state_of(const struct trace *trace) {
     };
 }
 
-void trace_begin(struct trace *trace, const struct machine *machine) {
+void trace_begin(struct trace *trace, const struct machine *machine, uint32_t version) {
     const size_t *n = machine->lengths;
-    *trace = (struct trace){.lengths = {.bios = machine->bios.len, .rom = machine->rom.len}};
+    *trace = (struct trace){.version = version, .lengths = {.bios = machine->bios.len, .rom = machine->rom.len}};
     if (machine->board.len != BTS_BOARD_SIZE || n[IO] > BTS_IO_SIZE || n[EWRAM] > BTS_EWRAM_SIZE || n[IWRAM] > BTS_IWRAM_SIZE) {
         return; /* it will be refused */
     }
@@ -80,7 +82,7 @@ static void do_step(struct trace *trace, const uint8_t *record) {
     uint8_t sheet[BTS_HEADER_SIZE + BTS_RECORD_SIZE];
     uint8_t answer[BTS_ANSWER_SIZE];
     size_t io = trace->lengths.memories[IO];
-    bts_put_header(sheet, 1);
+    bts_put_header_of(sheet, trace->version, 1);
     memcpy(sheet + BTS_HEADER_SIZE, record, BTS_RECORD_SIZE);
     bts_run(sheet, sizeof sheet, trace->board, sizeof trace->board, trace->io, io, bts_bytes(NULL), 0, bts_bytes(NULL), 0,
             answer, sizeof answer, 0, 0, io, 0, 0, 0, 0);
@@ -131,10 +133,13 @@ static void go_on(struct past *past, const struct seen *seen) {
     past->control_stored = past->control_stored || (write && meets_control(seen));
 }
 
-void trace_step(struct trace *trace, const uint8_t *record, bts_answer answer, struct seen *seen) {
-    *seen = (struct seen){.before = state_of(trace), .past = trace->past, .lengths = trace->lengths};
-    take_record(seen, record, answer);
-    do_step(trace, record);
+void trace_step(struct trace *trace, const uint8_t *record, uint32_t i, bts_answer answer, struct seen *seen) {
+    uint8_t part[BTS_RECORD_SIZE];
+    part_at(record, i, part);
+    *seen = (struct seen){.version = trace->version, .inside = i > 0, .before = state_of(trace), .past = trace->past,
+                          .lengths = trace->lengths};
+    take_record(seen, part, answer);
+    do_step(trace, part);
     seen->after = state_of(trace);
     go_on(&trace->past, seen);
 }

@@ -1,8 +1,9 @@
 /* What is seen of a step, for the marks: the record, its answer, and the machine before and after it.
  *
- * An answer doesn't say where the prefetch stands. So the steps are done a second time, one by one, on a copy of the board and of
- * the I/O memory: the library itself gives the board between two steps, and there is no second model here. Nothing else is lent,
- * since no cycle and nothing of the prefetch but its halfwords depends on what the memories hold, or on how long they are. */
+ * An answer doesn't say where the prefetch stands. So the steps are done a second time, one by one and a block word by word, on a
+ * copy of the board and of the I/O memory: the library itself gives the board between two steps, and there is no second model
+ * here. Nothing else is lent, since no cycle and nothing of the prefetch but its halfwords depends on what the memories hold, or
+ * on how long they are. */
 #ifndef HOST_SEEN_H
 #define HOST_SEEN_H
 
@@ -49,6 +50,8 @@ struct seen {
     uint32_t address;
     uint32_t value; /* of a Thumb opcode the low 16 bits */
     bts_answer answer;
+    uint32_t version;  /* of the sheet */
+    bool inside;       /* a word of a block behind its first, which the same opcode made */
     enum area area;    /* of the address */
     uint32_t first;    /* READ, WRITE: the first of the `size` bytes; a store begins at a multiple of its size */
     uint32_t idle;     /* cycles in which the cartridge bus is free */
@@ -60,17 +63,20 @@ struct seen {
 
 /* A run as far as it has been seen. */
 struct trace {
+    uint32_t version; /* of the sheet */
     uint8_t board[BTS_BOARD_SIZE];
     uint8_t io[BTS_IO_SIZE];
     struct lengths lengths;
     struct past past;
 };
 
-/* Before the run: what it starts from. What the run will refuse may be here too; then there is nothing to be seen. */
-void trace_begin(struct trace *trace, const struct machine *machine);
+/* Before the run of a sheet of the version: what it starts from. What the run will refuse may be here too; then there is nothing
+ * to be seen. */
+void trace_begin(struct trace *trace, const struct machine *machine, uint32_t version);
 
-/* The next step of an accepted run. */
-void trace_step(struct trace *trace, const uint8_t *record, bts_answer answer, struct seen *seen);
+/* The next step of an accepted run: part i of the record, as blocks.h has the parts. They are all to be seen, one behind the
+ * other; the answer is the record's. */
+void trace_step(struct trace *trace, const uint8_t *record, uint32_t i, bts_answer answer, struct seen *seen);
 
 /* A READ or WRITE of which a byte lies from `low` to `high`. */
 bool meets(const struct seen *seen, uint32_t low, uint32_t high);

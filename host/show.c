@@ -2,7 +2,9 @@
 #include "show.h"
 
 #include <stdio.h>
+#include <string.h>
 
+#include "blocks.h"
 #include "grounds.h"
 #include "kinds.h"
 #include "marks.h"
@@ -35,33 +37,50 @@ void print_lines(const struct account *account) {
 
 /* ---- what a preview leaves out */
 
-/* Behind it goes how they are shown. */
-#define LEFT_OUT \
-    "a preview leaves out the values of READ and FETCH and the hits of WRITE, which hang on the memories: they stand as "
+/* What that is, of the steps that the sheet's version has. Behind it goes how they are shown. */
+static const char *left_out(const struct account *account) {
+    return account->version == BTS_VERSION_1
+               ? "a preview leaves out the values of READ and FETCH and the hits of WRITE, which hang on the memories: they "
+                 "stand as"
+               : "a preview leaves out the values of READ, BLOCKREAD and FETCH and the hits of WRITE and BLOCKWRITE, which hang on "
+                 "the memories: they stand as";
+}
 
-void tell_left_out(void) {
-    complain(LEFT_OUT "0");
+void tell_left_out(const struct account *account) {
+    complain("%s 0", left_out(account));
 }
 
 static bool has_value(const struct account *account, const uint8_t *record) {
-    return !account->preview || (record[0] != BTS_READ && record[0] != BTS_FETCH);
+    return !account->preview || (record[0] != BTS_READ && record[0] != BTS_BLOCK_READ && record[0] != BTS_FETCH);
 }
 
 static bool has_hits(const struct account *account, const uint8_t *record) {
-    return !account->preview || record[0] != BTS_WRITE;
+    return !account->preview || (record[0] != BTS_WRITE && record[0] != BTS_BLOCK_WRITE);
 }
 
 /* ---- the table */
 
-/* The longest that two beats have: "address seq". More of them would move what stands behind. */
+/* The longest that two beats have: "address seq". */
 enum { GROUNDS_WIDTH = 11 };
 
+/* The width of the grounds' column: as much as the longest grounds take, which are those of a block if there is one. */
+static int grounds_width(const struct account *account) {
+    size_t width = GROUNDS_WIDTH;
+    for (size_t k = 0; k < account->count; k++) {
+        char text[GROUNDS_TEXT_ROOM];
+        grounds_short_text(account->grounds, k, text);
+        width = strlen(text) > width ? strlen(text) : width;
+    }
+    return (int)width;
+}
+
 /* The marks stand behind the last column, so that a step without any ends where the sum or its share does. */
-static void print_row(const struct account *account, size_t k, bts_answer a, unsigned long long sum) {
+static void print_row(const struct account *account, size_t k, int width, unsigned long long sum) {
+    bts_answer a = bts_answer_at(account->answers, k);
     const uint8_t *record = account->records + BTS_RECORD_SIZE * k;
     char text[STEP_TEXT_ROOM], grounds[GROUNDS_TEXT_ROOM], value[16] = "-", hits[4] = "-";
     step_text(record, text);
-    grounds_text(account->grounds, k, grounds);
+    grounds_short_text(account->grounds, k, grounds);
     if (has_value(account, record)) {
         snprintf(value, sizeof value, "0x%08lX", (unsigned long)a.value);
     }
@@ -69,7 +88,7 @@ static void print_row(const struct account *account, size_t k, bts_answer a, uns
         snprintf(hits, sizeof hits, "%u", (unsigned)a.hits);
     }
     printf("%5zu  %-29s %10lu  %-10s %4s %5u %5u  %-*s %14llu", k, text, (unsigned long)a.cycles, value, hits,
-           (unsigned)a.count, (unsigned)a.force, GROUNDS_WIDTH, grounds, sum);
+           (unsigned)a.count, (unsigned)a.force, width, grounds, sum);
 }
 
 /* The largest share, of 2^32 - 1 cycles at a cent each, has 11 characters. */
@@ -83,9 +102,21 @@ static void print_share(const struct account *account, size_t k) {
     }
 }
 
-static void print_heading(const struct account *account) {
+/* The lines that touch step k: of a block, those that touch a word of it. */
+static void print_departs(const struct account *account, size_t k, struct met *met) {
+    const uint8_t *record = account->records + BTS_RECORD_SIZE * k;
+    struct met step = {.preview = met->preview};
+    for (uint32_t i = 0; i < parts_of(record); i++) {
+        struct seen seen;
+        trace_step(account->trace, record, i, bts_answer_at(account->answers, k), &seen);
+        add_marks(&seen, &step);
+    }
+    print_marks(&step, met);
+}
+
+static void print_heading(const struct account *account, int width) {
     printf("%5s  %-29s %10s  %-10s %4s %5s %5s  %-*s %14s", "index", "step", "cycles", "value", "hits", "count", "force",
-           GROUNDS_WIDTH, "grounds", "sum");
+           width, "grounds", "sum");
     if (is_billed(account)) {
         printf(" %*s", SHARE_WIDTH, "share");
     }
@@ -95,20 +126,18 @@ static void print_heading(const struct account *account) {
 void print_table(const struct account *account) {
     unsigned long long sum = 0;
     struct met met = {.preview = account->preview};
-    print_heading(account);
+    int width = grounds_width(account);
+    print_heading(account, width);
     for (size_t k = 0; k < account->count; k++) {
-        bts_answer a = bts_answer_at(account->answers, k);
-        struct seen seen;
-        sum += a.cycles;
-        print_row(account, k, a, sum);
+        sum += bts_answer_at(account->answers, k).cycles;
+        print_row(account, k, width, sum);
         print_share(account, k);
-        trace_step(account->trace, account->records + BTS_RECORD_SIZE * k, a, &seen);
-        print_marks(&seen, &met);
+        print_departs(account, k, &met);
         putchar('\n');
     }
     print_total(account);
     if (account->preview) {
-        puts(LEFT_OUT "-");
+        printf("%s -\n", left_out(account));
     }
     print_met(&met, account->total);
 }

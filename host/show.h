@@ -14,7 +14,7 @@ void print_lines(const struct account *account);
 void print_table(const struct account *account);
 
 /* What the lines of a preview leave out, on standard error. */
-void tell_left_out(void);
+void tell_left_out(const struct account *account);
 
 /* A refusal's number, name, record and meaning, on standard error; of a faulty record also its bytes. */
 void tell_refusal(const uint8_t *records, uint32_t number, uint32_t index);

@@ -35,13 +35,14 @@
 #error "libbts.a is for Linux on x86-64 (System V, ELF, 64-bit pointers); BTS_NO_LIBRARY gives this header without its functions"
 #endif
 
-/* The version of this header with its library: MAJOR rises when a caller must change, MINOR when something is added. (The version
- * of a sheet is BTS_VERSION.) With 2.2 bts_run_grounds was added, with the numbers, names and readers of its grounds, and with
- * 2.1 bts_preview: a caller of 2.0 or 2.1 need change nothing. With 2.0 a board grew from 72 bytes to 80: build anew what lends
- * one, and see "the board" below for those that were saved before. */
+/* The version of this header with its library: MAJOR rises when a caller must change, MINOR when something is added. (A sheet has
+ * a version of its own, see "the sheet" below.) With 2.3 sheets of version 2 were added, with their blocks; with 2.2
+ * bts_run_grounds, with the numbers, names and readers of its grounds; and with 2.1 bts_preview. A caller of 2.0, 2.1 or 2.2 need
+ * change nothing: its sheets are of version 1, and mean what they did. With 2.0 a board grew from 72 bytes to 80: build anew what
+ * lends one, and see "the board" below for those that were saved before. */
 #define BTS_LIBRARY_MAJOR 2
-#define BTS_LIBRARY_MINOR 2
-#define BTS_LIBRARY_VERSION "2.2"
+#define BTS_LIBRARY_MINOR 3
+#define BTS_LIBRARY_VERSION "2.3"
 
 #include <stddef.h>
 #include <stdint.h>
@@ -106,12 +107,12 @@ static inline const char *const *bts_refusal_row(uint32_t number) {
     static const char *const rows[BTS_REFUSALS + 1][2] = {
         {"BTS_OK", "accepted"},
         {"BTS_BAD_MARK", "the sheet is under 8 bytes or doesn't begin with BTS"},
-        {"BTS_BAD_VERSION", "the sheet's version is not 1"},
+        {"BTS_BAD_VERSION", "the sheet's version is neither 1 nor 2"},
         {"BTS_BAD_SHAPE", "the sheet's byte 5 is not 0, it has over 4096 records, or its length is not 8 + 12 a record"},
         {"BTS_BAD_LENGTHS", "a memory is longer than its physical size, or the seven lengths don't add up to the store's"},
         {"BTS_UNSOUND_BOARD", "the board is not 80 bytes or not sound"},
         {"BTS_SHORT_ANSWERS", "the answers are shorter than 12 bytes a record, the shares than 8, or the grounds than 32"},
-        {"BTS_FAULTY_RECORD", "the record breaks the layout of a record or the table of kinds"},
+        {"BTS_FAULTY_RECORD", "the record breaks the layout of a record or the table of kinds of the sheet's version"},
         {"BTS_BAD_RATE", "the rate is 0 or over 1000000 cents per million cycles"},
         {"unknown", "this number is none that the library gives"},
     };
@@ -158,9 +159,21 @@ enum {
  *
  * Header: bytes 0-2 "BTS", 3-4 version, 5 zero, 6-7 number of records; the records stand behind it.
  * Record: byte 0 kind, 1 size, 2 flag, 3 zero, 4-7 address, 8-11 value. Any address is legal. A field that the kind doesn't use
- * is 0. */
+ * is 0.
+ *
+ * The version says what the records mean, and is 1 or 2; any other is refused with BTS_BAD_VERSION. Version 2 differs in two
+ * things, and in nothing else:
+ *   - it has kinds 10 and 11, the blocks; in version 1 they are faulty records like any kind that there is none of;
+ *   - Thumb POP is found where it is, at the opcodes 0xBC00-0xBDFF, and has its internal cycle there (cycles, value, force flag).
+ *     Version 1 looks for it at 0xBA00-0xBBFF, as the ported Rust does: these have that cycle in it, and POP has none.
+ * A library before 2.3 refuses version 2 with BTS_BAD_VERSION. So ask for it where you need it (bts_put_header_of), and else stay
+ * with version 1 (bts_put_header): what was priced under it keeps its figure. */
 
-enum { BTS_VERSION = 1 };
+enum {
+    BTS_VERSION_1 = 1,
+    BTS_VERSION_2 = 2,
+    BTS_VERSION = BTS_VERSION_1 /* what bts_put_header writes */
+};
 
 enum {
     BTS_READ = 1,        /* size 1, 2 or 4; address */
@@ -171,8 +184,21 @@ enum {
     BTS_RESTART = 6,     /* address: the prefetch starts anew there */
     BTS_INSTRUCTION = 7, /* size 2 Thumb, 4 ARM; address; value: opcode (Thumb: low 16 bits, rest ignored); flag 1: pc changed */
     BTS_PC = 8,          /* address: the pc, which opens the BIOS to loads below 0x4000 */
-    BTS_LATCH = 9        /* value: what BIOS loads give while it is closed */
+    BTS_LATCH = 9,       /* value: what BIOS loads give while it is closed */
+    BTS_BLOCK_READ = 10, /* in version 2; size 4; address; value: number of words, 1 to BTS_MOST_WORDS */
+    BTS_BLOCK_WRITE = 11 /* the same, stored: 0 in each word */
 };
+
+enum { BTS_MOST_WORDS = 16 }; /* of a block */
+
+/* A block stands for as many word accesses as it has words, at rising addresses: the first at its address lowered to a multiple of
+ * 4, and each other 4 behind the one before it, from 0xFFFFFFFC on to 0. Each word lies in the memory that its own address decodes
+ * to, and costs what a READ or WRITE of size 4 would cost there, behind the word before it; the first stands behind the access
+ * before the block, and the last is the previous access afterwards. But it is one step: it has one answer, one share and one row
+ * of grounds, and its cycles, at most 288, are the sum of its words'.
+ *
+ * BLOCK READ answers the last word. BLOCK WRITE takes no value to store: no cycle depends on what is stored, and it is 0 in each
+ * word. Where the stored values matter, use WRITE. */
 
 /* ---- the board
  *
@@ -208,10 +234,11 @@ enum {
 /* What a READ or WRITE in a ROM window costs follows from the previous data access. One that goes on where the previous one ended
  * is sequential from its first halfword on, unless its address is a multiple of 0x20000; any other is nonsequential in its first
  * halfword. The second halfword of a word is always sequential. Both addresses are lowered to a multiple of their size for this,
- * and it makes no difference which of the two reads and which writes.
+ * and it makes no difference which of the two reads and which writes. Each word of a block is such an access.
  *
- * The previous access is the last READ or WRITE, wherever it went and whatever of it landed. IDLE, PC and LATCH leave it alone;
- * INSTRUCTION, FETCH, RESTART and WAITCNT clear it. It stands on the board, so a sheet goes on with it where another ended. */
+ * The previous access is the last READ or WRITE, or the last word of a block, wherever it went and whatever of it landed. IDLE, PC
+ * and LATCH leave it alone; INSTRUCTION, FETCH, RESTART and WAITCNT clear it. It stands on the board, so a sheet goes on with it
+ * where another ended. */
 
 /* A board is sound when all of these hold:
  *   - bytes 7 and 73-79 are 0; force, filling and first beat are 0 or 1; WAITCNT bit 13 is clear;
@@ -235,13 +262,18 @@ enum {
  *     end, the bytes behind the end;
  *   - a byte to OAM, and a byte to object VRAM: from 0x10000 on, or from 0x14000 on in display modes 3 to 7 (I/O byte 0);
  *   - all but one byte of a wide store to SRAM.
- * So these hits depend on the memories' lengths and on the display mode, as no other hits and no cycles do: leave them out where
- * runs over different memories are to agree. */
+ * The hits of a BLOCK WRITE, 0 to 64, are the bytes of all its words that landed, and its bytes are 4 a word. What it loses is
+ * what a WRITE of size 4 loses at the address of each word, so to SRAM one byte a word lands at most.
+ *
+ * So the hits of these two depend on the memories' lengths, and those of a WRITE on the display mode too, as no other hits and no
+ * cycles do: leave them out where runs over different memories are to agree. */
 
 typedef struct {
-    uint32_t value;  /* READ: data; FETCH: halfword, 0 on a miss; INSTRUCTION: its cycles with the cartridge bus free; else 0 */
+    uint32_t value;  /* READ: data; BLOCK READ: the last word; FETCH: halfword, 0 on a miss; INSTRUCTION: its cycles with the
+                        cartridge bus free; else 0 */
     uint32_t cycles;
-    uint8_t hits;    /* FETCH, INSTRUCTION: halfwords taken from the prefetch; WRITE: bytes that landed in a memory; else 0 */
+    uint8_t hits;    /* FETCH, INSTRUCTION: halfwords taken from the prefetch; WRITE, BLOCK WRITE: bytes that landed in a memory;
+                        else 0 */
     uint8_t count;   /* halfwords that stand in the prefetch */
     uint8_t force;   /* 1: the next opcode fetch is nonsequential */
 } bts_answer;
@@ -259,22 +291,24 @@ typedef struct {
  *
  * Two accepted runs under one rate have the same shares and the same charge, whatever the memories hold and however long they
  * are, if they are alike: the sheets are the same but for the values of WRITE and LATCH, and the boards but for halfwords, latch
- * and counters. */
+ * and counters. (The value of a block is its number of words, so it must be the same.) */
 
 enum { BTS_MOST_RATE = 1000000 }; /* cents per million cycles */
 
 /* ---- the grounds, which bts_run_grounds gives besides: why a step costs what it does
  *
- * Grounds: 32 bytes a step, one for each beat in the order of the beats, and 0 behind the last beat. Today a step has at most two
- * beats; a later version may fill all 32, so look at each of them.
+ * Grounds: 32 bytes a step, one for each beat in the order of the beats, and 0 behind the last beat. A step of version 1 has at
+ * most two beats; a block of 16 words can fill all 32, so look at each of them.
  *
- * READ, WRITE and INSTRUCTION have grounds. All other kinds have none, FETCH too, though it takes from the prefetch. An opcode
- * in a ROM window has a beat for each of its halfwords, Thumb one and ARM two; any other opcode is one beat as a whole. A READ or
- * WRITE of a word has two beats in ROM, EWRAM, palette and VRAM; any other access is one beat.
+ * READ, WRITE, the blocks and INSTRUCTION have grounds. All other kinds have none, FETCH too, though it takes from the prefetch.
+ * An opcode in a ROM window has a beat for each of its halfwords, Thumb one and ARM two; any other opcode is one beat as a whole.
+ * A READ or WRITE of a word has two beats in ROM, EWRAM, palette and VRAM; any other access is one beat. A block has the beats of
+ * its words, one word's behind the other's.
  *
  * What the beats cost adds up to the step's cycles, together with the internal cycle of an INSTRUCTION that has one. N and S are
  * the cycles of a nonsequential and of a sequential halfword of ROM, 1 + the waits that WAITCNT sets for the window of the step's
- * address. The prefetch, the force flag and the previous data access are those of the board before the step.
+ * address, and in a block for that of the word's. The prefetch, the force flag and the previous data access are those of the board
+ * before the step; that of a further word of a block is the word before it.
  *
  *   ground   cycles  where it is told
  *   hit      1       a halfword of an opcode in ROM, if the prefetch is on and that halfword is the first that stands in it
@@ -326,8 +360,8 @@ static inline const char *bts_ground_name(uint32_t number) {
  * bts_preview takes a sheet and a board, and no memories. Its report and its answers are those of bts_run on a copy of the board,
  * whatever memories that is lent, if only it accepts them. This is proved, and holds of every byte but for these, which hang on
  * the memories and are 0:
- *   - bytes 0-3 of the answer of a READ or a FETCH, the value;
- *   - byte 8 of the answer of a WRITE, the hits.
+ *   - bytes 0-3 of the answer of a READ or a FETCH, and of a BLOCK READ: the value;
+ *   - byte 8 of the answer of a WRITE or a BLOCK WRITE: the hits.
  * So the total is the run's, and so are the cycles, the prefetch count and the force flag of each step, the value of INSTRUCTION,
  * and the hits of FETCH and INSTRUCTION.
  *
@@ -413,10 +447,21 @@ static inline uint64_t bts_get64(const uint8_t *at) {
     return bts_get32(at) | BTS_CAST(uint64_t, bts_get32(at + 4)) << 32;
 }
 
-/* The BTS_HEADER_SIZE bytes in front of `records` records, at most BTS_MOST_RECORDS. */
+/* The BTS_HEADER_SIZE bytes in front of `records` records, at most BTS_MOST_RECORDS, of a sheet of the version. What is none is
+ * written all the same (16 bits of it), and refused by the run. */
+static inline void bts_put_header_of(uint8_t *sheet, uint32_t version, uint32_t records) {
+    bts_put32(sheet, 0x00535442 | version << 24);
+    bts_put32(sheet + 4, (version >> 8 & 0xFF) | records << 16);
+}
+
+/* The same of a sheet of version 1, which has no blocks. */
 static inline void bts_put_header(uint8_t *sheet, uint32_t records) {
-    bts_put32(sheet, 0x00535442 | BTS_CAST(uint32_t, BTS_VERSION) << 24);
-    bts_put32(sheet + 4, records << 16);
+    bts_put_header_of(sheet, BTS_CAST(uint32_t, BTS_VERSION), records);
+}
+
+/* The version that a sheet of at least BTS_HEADER_SIZE bytes says it is of. */
+static inline uint16_t bts_sheet_version(const uint8_t *sheet) {
+    return bts_get16(sheet + 3);
 }
 
 /* Record k, from 0, of a sheet that has room for it. What is no legal record is written all the same, and refused by the run. */

@@ -140,10 +140,9 @@ late_refusal_checks() {
     lib=${BTS_LIB:-target/staticlib/libbts.a}
     check "it builds" ${CC:-cc} -std=c11 -Wall -Wextra -Wpedantic -Wconversion -Werror -Iinclude -Ihost $here/pieces.c \
         host/runs.c "$lib" -o "$work/pieces"
-    check "it runs" is "$("$work/pieces")" "0 10000 10000
-7 9000 0
-0 10000 10000
-7 9000 0"
+    both='0 10000 10000
+7 9000 0'
+    check "it runs" is "$("$work/pieces")" "$(printf '%s\n' "$both" "$both" "$both" "$both")"
 }
 
 every_pass="$every_pass store_checks piece_checks"

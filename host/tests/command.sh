@@ -34,7 +34,7 @@ help_checks() {
         check "$option is told" grep -q -e "^  $option   *[a-zA-Z]" "$work/help"
     done
     column_checks
-    check "the steps" grep -q 'THUMB   ADDRESS OPCODE \[pc\]' "$work/help"
+    check "the steps" grep -q '^  THUMB  *ADDRESS OPCODE \[pc\]' "$work/help"
 }
 
 column_checks() {

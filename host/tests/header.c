@@ -1,7 +1,7 @@
 /* include/bts.h by itself, as C and as C++: the README's small sheet made with the header's helpers, over no BIOS and no ROM; the
  * same billed, with its grounds, and priced before it is run; the names of the refusals and of the grounds; the readers of a
- * board and of grounds; what lands of stores; a row of accesses over two runs; the length of a board. The exit status is the
- * number of the first thing that is wrong. */
+ * board and of grounds; what lands of stores; a row of accesses over two runs; the length of a board; the versions of a sheet, and
+ * a block. The exit status is the number of the first thing that is wrong. */
 #include "bts.h"
 
 #include <string.h>
@@ -144,7 +144,7 @@ static int names_of_grounds(void) {
                : 34;
 }
 
-/* Steps of no beat, of one, of 31 and of 32, which no step has today. */
+/* Steps of no beat, of one, of 31 and of 32, which a block of 16 words can have. */
 static int beats_of_grounds(void) {
     static const size_t beats[] = {0, 1, 31, 32};
     uint8_t grounds[4 * BTS_GROUNDS_SIZE] = {0};
@@ -227,6 +227,58 @@ static int board_lengths(void) {
     return strstr(bts_refusal_text(BTS_UNSOUND_BOARD), " 80 bytes ") != NULL ? 0 : 23;
 }
 
+/* The headers of 3 records by hand: version 1, which bts_put_header goes on writing, and version 2; and one of a version that there
+ * is none of, with both its bytes. */
+static int headers(void) {
+    static const uint8_t first[] = {'B', 'T', 'S', 1, 0, 0, 3, 0}, second[] = {'B', 'T', 'S', 2, 0, 0, 3, 0};
+    static const uint8_t other[] = {'B', 'T', 'S', 0xFE, 0xCA, 0, 0, 0x10};
+    uint8_t old[BTS_HEADER_SIZE], one[BTS_HEADER_SIZE], two[BTS_HEADER_SIZE], none[BTS_HEADER_SIZE];
+    bts_put_header(old, 3);
+    bts_put_header_of(one, BTS_VERSION_1, 3);
+    bts_put_header_of(two, BTS_VERSION_2, 3);
+    bts_put_header_of(none, 0xCAFE, BTS_MOST_RECORDS);
+    if (memcmp(old, first, 8) != 0 || memcmp(one, first, 8) != 0 || memcmp(two, second, 8) != 0 || memcmp(none, other, 8) != 0) {
+        return 37;
+    }
+    if (bts_sheet_version(old) != 1 || bts_sheet_version(two) != 2 || bts_sheet_version(none) != 0xCAFE) {
+        return 38;
+    }
+    int numbers = BTS_VERSION == 1 && BTS_VERSION_1 == 1 && BTS_VERSION_2 == 2 && BTS_MOST_WORDS == 16;
+    return numbers && BTS_BLOCK_READ == 10 && BTS_BLOCK_WRITE == 11 ? 0 : 39;
+}
+
+/* Two blocks of two words from 0x01FFFFFC on, over 5 bytes of EWRAM; `version` is that of the sheet. */
+static bts_report with_blocks(uint32_t version, uint8_t *answers, uint8_t *grounds) {
+    uint8_t sheet[BTS_HEADER_SIZE + 2 * BTS_RECORD_SIZE], board[BTS_BOARD_SIZE] = {0}, store[5] = {0x78, 0x56, 0x34, 0x12, 0x99};
+    bts_put_header_of(sheet, version, 2);
+    bts_put_record(sheet, 0, BTS_BLOCK_READ, 4, 0, 0x01FFFFFE, 2);
+    bts_put_record(sheet, 1, BTS_BLOCK_WRITE, 4, 0, 0x02000000, 2);
+    return bts_run_grounds(sheet, sizeof sheet, board, sizeof board, store, sizeof store, bts_bytes(NULL), 0, bts_bytes(NULL), 0,
+                           answers, 2 * BTS_ANSWER_SIZE, grounds, 2 * BTS_GROUNDS_SIZE, 5, 0, 0, 0, 0, 0, 0);
+}
+
+/* The first has a word of no memory, 1 cycle, and one of EWRAM, 6; of the second, 5 of 8 bytes land. In version 1 the first is
+ * faulty, and version 3 is none. */
+static int blocks(void) {
+    uint8_t answers[2 * BTS_ANSWER_SIZE], grounds[2 * BTS_GROUNDS_SIZE];
+    bts_report old = with_blocks(BTS_VERSION_1, answers, grounds), none = with_blocks(3, answers, grounds);
+    if (old.number != BTS_FAULTY_RECORD || old.index != 0 || none.number != BTS_BAD_VERSION || none.index != 0) {
+        return 40;
+    }
+    bts_report report = with_blocks(BTS_VERSION_2, answers, grounds);
+    bts_answer read = bts_answer_at(answers, 0), write = bts_answer_at(answers, 1);
+    if (report.number != BTS_OK || report.index != 2 || report.total != 7 + 12) {
+        return 41;
+    }
+    if (read.value != 0x12345678 || read.cycles != 7 || read.hits != 0 || write.value != 0 || write.cycles != 12) {
+        return 42;
+    }
+    if (write.hits != 5 || bts_ground_beats(grounds, 0) != 3 || bts_ground_beats(grounds, 1) != 4) {
+        return 43;
+    }
+    return bts_ground_at(grounds, 0, 0) == BTS_GROUND_FAST && bts_ground_at(grounds, 0, 2) == BTS_GROUND_EWRAM ? 0 : 44;
+}
+
 static int names(void) {
     if (strcmp(BTS_LIBRARY_VERSION, TEXT(BTS_LIBRARY_MAJOR) "." TEXT(BTS_LIBRARY_MINOR)) != 0) {
         return 6;
@@ -267,7 +319,7 @@ static int readers(void) {
 int main(void) {
     int results[] = {refused_run(),    accepted_run(),    names(),         readers(),       stores(),       billed_run(),
                      layout_of_bill(), row_of_accesses(), board_lengths(), previewed_run(), grounded_run(), names_of_grounds(),
-                     beats_of_grounds()};
+                     beats_of_grounds(), headers(),       blocks()};
     int first = 0;
     for (size_t i = 0; i < sizeof results / sizeof results[0]; i++) {
         first = first != 0 ? first : results[i];

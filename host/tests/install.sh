@@ -63,7 +63,7 @@ man_checks() {
     sed -n 's/\\en/\\n/g; s/^\(printf .*\) | btsrun$/\1/p' host/btsrun.1 >"$work/examples"
     totals=
     while read -r example; do totals="$totals$(eval "$example" | $program | tail -n 1), "; done <"$work/examples"
-    check "its examples" is "$totals" "total 3, total 14, "
+    check "its examples" is "$totals" "total 3, total 14, total 20, "
     if command -v mandoc >"$work/out"; then
         check "mandoc" mandoc -T lint -W warning host/btsrun.1
     elif command -v man >"$work/out"; then

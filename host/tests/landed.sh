@@ -5,7 +5,7 @@ expected_hits() { sed -n 's/^[A-Z].* # \([0-9]*\).*/\1/p' "$1"; }
 
 # LISTING: what standard error has of it with -v, by the same comments
 expected_names() {
-    awk '/^[A-Z]/ { step = $0; sub(/ # .*/, "", step); stores += $1 == "WRITE"; n++ }
+    awk '/^[A-Z]/ { step = $0; sub(/ *# .*/, "", step); stores += $1 ~ /WRITE$/; n++ }
          /^[A-Z].* # .* landed: / { says = $0; sub(/.* # /, "", says); lines[++shorts] = "  step " n - 1 ": " step ": " says }
          END { print "btsrun: " shorts " of " stores " stores landed short:"
                for (i = 1; i <= shorts; i++) print lines[i] }' "$1"

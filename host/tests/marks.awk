@@ -14,10 +14,12 @@ function lend(name, length_) {
     return 1
 }
 
-# A step, or what it is that can't be read. The words stand in w[1] to w[n].
+# A step, or what it is that can't be read. The words stand in w[1] to w[n]. `version 2` is a line of a listing too, and passes
+# like a step of one number.
 function step(n) {
     if (w[1] == "READ") return "READ " w[2] " " w[4]
     if (w[1] == "WRITE") return "WRITE " w[2] " " w[6] " " w[4]
+    if (w[1] == "BLOCK") return "BLOCK" w[2] " " w[7] " " w[4]
     if (w[1] == "ARM" || w[1] == "Thumb") return toupper(w[1]) " " w[4] " " w[2] (w[7] == 1 ? " pc" : "")
     if (n == 2) return w[1] " " number(w[2])
     return "?"

@@ -1,11 +1,14 @@
 # From what a run prints to what its preview must print: the lines, or the table of -v, without what hangs on the memories.
-#   awk -f preview.awk -v untold="D-8 D-9 .." KINDS OUTPUT
-# KINDS has the kind of each step, one a line; `untold` the lines of docs/DIFFERENCES.md that a preview leaves out.
+#   awk -f preview.awk -v untold="D-8 D-9 .." -v told="btsrun: a preview leaves out .. 0" KINDS OUTPUT
+# KINDS has the kind of each step, one a line; `untold` the lines of docs/DIFFERENCES.md that a preview leaves out; `told` what
+# standard error has behind the lines.
 
-function hides_value(step) { return step == "READ" || step == "FETCH" }
+function hides_value(step) { return step == "READ" || step == "BLOCKREAD" || step == "FETCH" }
+
+function hides_hits(step) { return step == "WRITE" || step == "BLOCKWRITE" }
 
 # The marks behind a row's last column, without those that are left out. A blank stands in front of each.
-function told(marks, n, i, all, m) {
+function marked(marks, n, i, all, m) {
     n = split(marks, m, " ")
     all = ""
     for (i = 1; i <= n; i++) if (!(m[i] in left_out)) all = all " " m[i]
@@ -22,8 +25,9 @@ function figure(total, i, names) {
 BEGIN {
     n = split(untold, list, " ")
     for (i = 1; i <= n; i++) left_out[list[i]] = 1
-    sentence = "a preview leaves out the values of READ and FETCH and the hits of WRITE, which hang on the memories"
-    sentence = sentence ": they stand as -"
+    sentence = told
+    sub(/^btsrun: /, "", sentence)
+    sub(/0$/, "-", sentence)
 }
 
 FILENAME == ARGV[1] { kind[steps++] = $1; next }
@@ -33,8 +37,8 @@ FNR == 1 && /^index/ { table = 1; width = index($0, " departs") - 1; print; next
 table && FNR <= steps + 1 {
     row = substr($0, 1, width)
     if (hides_value(kind[FNR - 2])) row = substr(row, 1, 49) "-         " substr(row, 60)
-    if (kind[FNR - 2] == "WRITE") row = substr(row, 1, 60) "   -" substr(row, 65)
-    print row told(substr($0, width + 1))
+    if (hides_hits(kind[FNR - 2])) row = substr(row, 1, 60) "   -" substr(row, 65)
+    print row marked(substr($0, width + 1))
     next
 }
 table && /^D-/ {
@@ -54,6 +58,6 @@ table && / by the model; / {
 # the lines
 !table && /^[0-9]/ {
     if (hides_value(kind[$1])) $3 = 0
-    if (kind[$1] == "WRITE") $4 = 0
+    if (hides_hits(kind[$1])) $4 = 0
 }
 { print }

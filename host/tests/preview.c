@@ -166,7 +166,7 @@ static void check_ends(void) {
 
 static void short_sheet(void) { lent.sheet_len = 7; }
 static void bad_mark(void) { lent.sheet[0] = 'X'; }
-static void bad_version(void) { lent.sheet[3] = 2; }
+static void bad_version(void) { lent.sheet[3] = 3; }
 static void bad_shape(void) { lent.sheet[5] = 1; }
 static void bad_count(void) { bts_put_header(lent.sheet, STEPS + 1); }
 static void long_sheet(void) { lent.sheet_len++; }

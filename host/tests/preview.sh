@@ -4,18 +4,25 @@
 left_out_told="btsrun: a preview leaves out the values of READ and FETCH and the hits of WRITE, which hang on the memories: \
 they stand as 0"
 
+# LISTING: the same of it: where it is for sheets of version 2, their blocks are named too
+left_out_of() {
+    grep -qi '^version 2' "$1" || { echo "$left_out_told"; return; }
+    echo "$left_out_told" | sed 's/READ and FETCH/READ, BLOCKREAD and FETCH/; s/WRITE, which/WRITE and BLOCKWRITE, which/'
+}
+
 # The lines of docs/DIFFERENCES.md that a preview leaves out, by host/README.md.
 untold_lines() {
     sed -n "s/^a preview can't tell \(.*\): they hang on the memories\$/\1/p" host/README.md | sed 's/,//g; s/ and / /'
 }
 
 # LISTING: the kind of each of its steps
-kinds_of() { awk '{ sub(/[#;].*/, "") } NF { print toupper($1) }' "$1"; }
+kinds_of() { awk '{ sub(/[#;].*/, "") } NF && toupper($1) != "VERSION" { print toupper($1) }' "$1"; }
 
 # LISTING OPTIONS..: what $program has just printed, as a preview must have it, in $work/expected
 expect_preview() {
     kinds_of "$1" >"$work/kinds"
-    awk -v untold="$(untold_lines)" -f $here/preview.awk "$work/kinds" "$work/out" >"$work/expected"
+    awk -v untold="$(untold_lines)" -v told="$(left_out_of "$1")" -f $here/preview.awk "$work/kinds" "$work/out" \
+        >"$work/expected"
 }
 
 # MEMORIES LISTING OPTIONS..: the preview prints what the run over these memories (options of the program) does, but for what
@@ -32,18 +39,19 @@ previewed() {
         run --preview $option "$@" "$listing"
         check "$what: status" is "$status" 0
         check "$what: stdout" diff "$work/out" "$work/expected"
-        check "$what: stderr" is "$(cat "$work/err")" "$([ -n "$option" ] || echo "$left_out_told")"
+        check "$what: stderr" is "$(cat "$work/err")" "$([ -n "$option" ] || left_out_of "$listing")"
     done
 }
 
 preview_run_checks() {
-    for name in bench loop steps rows landed marks grounds; do
+    for name in bench loop steps rows landed marks grounds blocks blocks-landed blocks-marks; do
         previewed '' $here/$name.lst
     done
     printf '\021\042\063\104\125\146\167' >"$work/image"
     previewed "--bench --rom $work/image --bios $work/image" $here/steps.lst
     zero_store "$work/lent-store" 5,0,2050,7,65539,3,1
     previewed "--store $work/lent-store" $here/landed-short.lst
+    previewed "--store $work/lent-store" $here/blocks-short.lst
     echo 'IDLE 1' >"$work/steps"
     previewed '' "$work/steps"
     check "no mark: the figure" grep -qx '1 by the model; no departure that a preview can tell applies' "$work/out"
@@ -163,7 +171,7 @@ preview_refusal_checks() {
     printf 'BTX\001\000\000\000\000' >"$work/sheet"
     zeros "$work/board" 72
     refused_before "a mark" 1 --sheet "$work/sheet" --board "$work/board"
-    printf 'BTS\002\000\000\000\000' >"$work/sheet"
+    printf 'BTS\003\000\000\000\000' >"$work/sheet"
     refused_before "a version" 2 --sheet "$work/sheet" --board "$work/board"
     printf 'BTS\001\000\001\000\000' >"$work/sheet"
     refused_before "a shape" 3 --sheet "$work/sheet" --board "$work/board"

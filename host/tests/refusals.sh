@@ -5,7 +5,7 @@ refusal_checks() {
     outputs="-o $files/new-sheet --board-out $files/new-board --sram-out $files/new-sram"
     printf 'BTS\001\000\000' >"$work/sheet"
     bad "refusal 1" 1 "refused 1 (BTS_BAD_MARK) at record 0" $outputs --sheet "$work/sheet"
-    hex_file "$work/sheet" 42 54 53 02 00 00 00 00
+    hex_file "$work/sheet" 42 54 53 03 00 00 00 00
     bad "refusal 2" 1 "refused 2 (BTS_BAD_VERSION) at record 0" $outputs --sheet "$work/sheet"
     hex_file "$work/sheet" 42 54 53 01 00 00 01 00
     bad "refusal 3" 1 "refused 3 (BTS_BAD_SHAPE) at record 0" $outputs --sheet "$work/sheet"

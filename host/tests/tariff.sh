@@ -155,7 +155,7 @@ refusal_order_checks() {
     outputs="-v -o $files/new-sheet --board-out $files/new-board --sram-out $files/new-sram --store-out $files/new-store"
     printf 'BTX\001\000\000\000\000' >"$work/sheet"
     refused_alike "a mark" $outputs --sheet "$work/sheet"
-    printf 'BTS\002\000\000\000\000' >"$work/sheet"
+    printf 'BTS\003\000\000\000\000' >"$work/sheet"
     refused_alike "a version" $outputs --sheet "$work/sheet"
     awk 'BEGIN { for (i = 0; i < 4096; i++) print "IDLE 1" }' >"$work/idle"
     good "the longest sheet, billed" --rate 307 -o "$work/sheet" "$work/idle"

@@ -111,6 +111,12 @@ pub const RESTART: u8 = 6;
 pub const INSTRUCTION: u8 = 7;
 pub const PC: u8 = 8;
 pub const LATCH: u8 = 9;
+/// These two in version 2 alone (document 02, W-207).
+pub const BLOCK_READ: u8 = 10;
+pub const BLOCK_WRITE: u8 = 11;
+
+/// The most words of a block.
+pub const MOST_WORDS: u32 = 16;
 
 pub fn u16_at(b: &[u8], at: usize) -> u16 {
     u16::from_le_bytes([b[at], b[at + 1]])
@@ -151,9 +157,34 @@ pub fn record_count(sheet: &[u8]) -> usize {
     usize::from(u16_at(sheet, 6))
 }
 
-/// A version 1 sheet of these records.
+/// The versions of a sheet.
+#[derive(Clone, Copy, Debug, PartialEq, Eq)]
+#[repr(u16)]
+pub enum Version {
+    One = 1,
+    Two = 2,
+}
+
+pub const VERSIONS: [Version; 2] = [Version::One, Version::Two];
+
+impl Version {
+    /// The one that the header names, if it is one of them.
+    pub fn of(sheet: &[u8]) -> Option<Version> {
+        let number = u16_at(sheet, 3);
+        VERSIONS.into_iter().find(|&version| version as u16 == number)
+    }
+}
+
+/// A version 1 sheet of these records, for tests/speed, which has this file too.
+#[allow(dead_code)]
 pub fn sheet_of(records: &[Record]) -> Vec<u8> {
-    let mut bytes = vec![b'B', b'T', b'S', 1, 0, 0];
+    sheet_in(Version::One, records)
+}
+
+pub fn sheet_in(version: Version, records: &[Record]) -> Vec<u8> {
+    let mut bytes = b"BTS".to_vec();
+    bytes.extend((version as u16).to_le_bytes());
+    bytes.push(0);
     bytes.extend((records.len() as u16).to_le_bytes());
     for r in records {
         bytes.extend(r.bytes());
@@ -206,12 +237,23 @@ impl Record {
         b
     }
 
-    /// Outside the table of kinds, or a size that its kind doesn't have (the first pass).
-    pub fn kind_or_size_faulty(&self) -> bool {
+    pub fn is_block(&self) -> bool {
+        matches!(self.kind, BLOCK_READ | BLOCK_WRITE)
+    }
+
+    /// The addresses of a block's words (W-207): upwards from its own lowered to a multiple of 4, modulo 2^32.
+    pub fn words(&self) -> impl Iterator<Item = u32> {
+        let first = lowered(self.address, 4);
+        (0..self.value).map(move |i| first.wrapping_add(4 * i))
+    }
+
+    /// Outside the version's table of kinds, or a size that its kind doesn't have (the first pass).
+    pub fn kind_or_size_faulty(&self, version: Version) -> bool {
         match self.kind {
             READ | WRITE => ![1, 2, 4].contains(&self.size),
             INSTRUCTION => ![2, 4].contains(&self.size),
             WAITCNT | IDLE | FETCH | RESTART | PC | LATCH => self.size != 0,
+            BLOCK_READ | BLOCK_WRITE => version == Version::One || self.size != 4,
             _ => true,
         }
     }
@@ -223,13 +265,19 @@ impl Record {
         let value_wrong = match self.kind {
             READ | FETCH | RESTART | PC => self.value != 0,
             WAITCNT => self.value > 65_535,
+            BLOCK_READ | BLOCK_WRITE => !(1..=MOST_WORDS).contains(&self.value),
             _ => false,
         };
         self.zero != 0 || flag_wrong || address_wrong || value_wrong
     }
 
+    /// In a version 1 sheet.
     pub fn faulty(&self) -> bool {
-        self.kind_or_size_faulty() || self.fields_faulty()
+        self.faulty_in(Version::One)
+    }
+
+    pub fn faulty_in(&self, version: Version) -> bool {
+        self.kind_or_size_faulty(version) || self.fields_faulty()
     }
 }
 

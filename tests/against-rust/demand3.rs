@@ -5,15 +5,15 @@ use crate::bytes::*;
 use crate::grounds::words_of;
 use crate::tariff::shares_of;
 
-/// Where two runs with alike sheets and boards differ in answer bytes 4–7, 9 or 10, in byte 8 of any step but WRITE, in the
-/// total, or, being under one rate, in a share or the charge. The hits of a WRITE, the bytes that landed, are compared only
-/// where W-201 makes them equal.
+/// Where two runs with alike sheets and boards differ in answer bytes 4–7, 9 or 10, in byte 8 of any step but WRITE and BLOCK
+/// WRITE, in the total, or, being under one rate, in a share or the charge. The hits of those two, the bytes that landed, are
+/// compared only where W-201 makes them equal.
 pub fn pair_difference(first: &Case, second: &Case, a: &Outcome, b: &Outcome) -> Option<String> {
     let landings = same_landings(first, second);
     for (k, record) in records_of(&first.sheet).iter().enumerate() {
         let columns = |outcome: &Outcome| {
             let answer = Answer::of(&outcome.answers[ANSWER * k..]);
-            let hits = (landings || record.kind != WRITE).then_some(answer.hits);
+            let hits = (landings || !matches!(record.kind, WRITE | BLOCK_WRITE)).then_some(answer.hits);
             (answer.cycles, hits, answer.count, answer.force)
         };
         let (ours, other) = (columns(a), columns(b));
@@ -56,8 +56,8 @@ pub fn ground_difference(a: &Outcome, b: &Outcome) -> Option<String> {
     Some(format!("two alike runs give step {k} the grounds {} and {}", words_of(ours), words_of(other)))
 }
 
-/// Whether the same bytes of both stores must be written at each WRITE: the number depends on the lengths and the display mode
-/// alone, and the mode on I/O byte 0 and on what is stored there.
+/// Whether the same bytes of both stores must be written at each WRITE and BLOCK WRITE: the number depends on the lengths and the
+/// display mode alone, and the mode on I/O byte 0 and on what is stored there, which by a block is 0 in both.
 fn same_landings(first: &Case, second: &Case) -> bool {
     let modes = |case: &Case| -> Vec<u32> {
         let lent = parts_of(&case.store, case.lengths)[IO].first().map(|&byte| u32::from(byte));
@@ -72,7 +72,7 @@ pub fn stores_mode(record: &Record) -> bool {
     record.kind == WRITE && lowered(record.address, record.size) == 0x0400_0000
 }
 
-/// Demand 3's limits: I + A + D ≤ total ≤ 19·I + 18·A + D in an accepted run.
+/// Demand 3's limits: I + A + D ≤ total ≤ 19·I + 18·A + D in an accepted run. Each word of a block counts in A (W-207).
 pub fn past_limits(case: &Case, outcome: &Outcome) -> Option<String> {
     if outcome.report.number != 0 {
         return None;
@@ -82,6 +82,7 @@ pub fn past_limits(case: &Case, outcome: &Outcome) -> Option<String> {
         let (low, high) = match record.kind {
             INSTRUCTION => (1, 19),
             READ | WRITE => (1, 18),
+            BLOCK_READ | BLOCK_WRITE => (u64::from(record.value), 18 * u64::from(record.value)),
             IDLE => (u64::from(record.value), u64::from(record.value)),
             _ => (0, 0),
         };

@@ -81,10 +81,15 @@ impl Plan {
         self.case(|tag, len| (0..len).map(|i| rule_byte(seed, tag, i)).collect())
     }
 
-    /// An accepted plan of these records over these memories.
+    /// An accepted plan of these records, on a version 1 sheet, over these memories.
     pub fn accepted(board: Board, memories: &Memories, records: &[Record]) -> Plan {
+        Plan::accepted_in(Version::One, board, memories, records)
+    }
+
+    /// The same on a sheet of a version.
+    pub fn accepted_in(version: Version, board: Board, memories: &Memories, records: &[Record]) -> Plan {
         Plan {
-            sheet: sheet_of(records),
+            sheet: sheet_in(version, records),
             board: board.bytes(),
             lengths: memories.lengths,
             store_len: memories.lengths.iter().sum(),
@@ -208,7 +213,7 @@ fn rom_length(rng: &mut Rng, large: usize) -> usize {
 
 // ---- cases ----
 
-/// A random case: mostly an accepted run, else one refusal or several, or random damage.
+/// A random case: mostly an accepted run, else one refusal or several, blocks on a version 1 sheet, or random damage.
 pub fn random(seed: u64) -> (Plan, Case) {
     let mut rng = Rng::new(seed);
     let plan = random_plan(&mut rng);
@@ -217,16 +222,18 @@ pub fn random(seed: u64) -> (Plan, Case) {
 }
 
 pub fn random_plan(rng: &mut Rng) -> Plan {
+    let version = rng.pick(&VERSIONS);
     match rng.below(100) {
-        0..=84 => accepted(rng, 2),
-        85..=89 => refusals::one(rng),
-        90..=94 => refusals::several(rng),
-        _ => refusals::damaged(rng),
+        0..=84 => accepted(rng, version, 2),
+        85..=89 => refusals::one(rng, version),
+        90..=94 => refusals::several(rng, version),
+        95 => refusals::blocks_in_one(rng),
+        _ => refusals::damaged(rng, version),
     }
 }
 
-/// A list of 0 to 60 steps from a sound board, with answers lent a little longer at times.
-pub fn accepted(rng: &mut Rng, large: usize) -> Plan {
+/// A list of 0 to 60 steps from a sound board, on a sheet of a version, with answers lent a little longer at times.
+pub fn accepted(rng: &mut Rng, version: Version, large: usize) -> Plan {
     let memories = Memories::random(rng, large);
     let board = boards::any_sound(rng);
     let n = match rng.below(400) {
@@ -235,13 +242,13 @@ pub fn accepted(rng: &mut Rng, large: usize) -> Plan {
         _ => rng.below(61),
     };
     let sort = rng.below(100);
-    let steps = Steps::new(rng, &memories);
+    let steps = Steps::in_version(version, rng, &memories);
     let records = match sort {
         0..=29 => steps.code_run(n, &board),
         30..=54 => steps.rows(n, &board),
         _ => steps.mixed(n),
     };
-    let mut plan = Plan::accepted(board, &memories, &records);
+    let mut plan = Plan::accepted_in(version, board, &memories, &records);
     if rng.percent(40) {
         plan.answers_len += rng.below(30);
     }
@@ -252,7 +259,8 @@ pub fn accepted(rng: &mut Rng, large: usize) -> Plan {
 /// 3), but in half of the pairs the lengths and the display modes, so that what lands must agree too (W-201).
 pub fn pair(seed: u64) -> (Case, Case) {
     let mut rng = Rng::new(seed);
-    let first = accepted(&mut rng, 2);
+    let version = rng.pick(&VERSIONS);
+    let first = accepted(&mut rng, version, 2);
     let mut memories = Memories::random(&mut rng, 2);
     let same = rng.percent(50);
     if same {
@@ -261,7 +269,7 @@ pub fn pair(seed: u64) -> (Case, Case) {
     let records: Vec<Record> =
         records_of(&first.sheet).into_iter().map(|r| alike_record(&mut rng, r, same)).collect();
     let board = alike_board(&mut rng, Board::of(&first.board));
-    let second = Plan::accepted(board, &memories, &records);
+    let second = Plan::accepted_in(version, board, &memories, &records);
     let (rate, n) = (bills::good_rate(&mut rng), records.len());
     let [first, second] = [first, second].map(|plan| {
         let plan = plan.billed(rooms::enough(&mut rng, SHARE * n), rate, 0);

@@ -411,7 +411,7 @@ pub const LISTS: &[(&str, &str)] = &[
     // the others before it, and 7 behind it
     ("sheet byte 0 0x43, grounds of 31 bytes, IDLE 1", "refused 1"),
     ("sheet of 7 bytes, grounds of 0 bytes", "refused 1"),
-    ("sheet byte 3 2, grounds of 31 bytes, IDLE 1", "refused 2"),
+    ("sheet byte 3 3, grounds of 31 bytes, IDLE 1", "refused 2"),
     ("sheet byte 5 1, grounds of 31 bytes, IDLE 1", "refused 3"),
     ("store of 5 bytes, grounds of 31 bytes, IDLE 1", "refused 4"),
     ("board byte 2 2, grounds of 31 bytes, IDLE 1", "refused 5"),

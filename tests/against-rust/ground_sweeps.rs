@@ -46,7 +46,7 @@ pub fn length_plan(records: &[Record], length: usize, less: usize) -> Plan {
     plan.grounded(length, if short { 6 } else { 0 })
 }
 
-/// Every set of the seven refusals, 6 by either buffer and by both, four times.
+/// Every set of the seven refusals, 6 by either buffer and by both, four times, on sheets of both versions by turns.
 fn refusal_sets(visit: &mut dyn FnMut(Plan)) {
     for set in 1..128 {
         let numbers = refusals::set_of(set);
@@ -54,7 +54,8 @@ fn refusal_sets(visit: &mut dyn FnMut(Plan)) {
         for (way, &short) in ways.iter().enumerate() {
             for turn in 0..4 {
                 let seed = 1_000_000 + 1000 * set + 10 * way + turn;
-                visit(refusals::with_grounds(&mut Rng::new(seed as u64), &numbers, short));
+                let version = VERSIONS[turn % 2];
+                visit(refusals::with_grounds(&mut Rng::new(seed as u64), version, &numbers, short));
             }
         }
     }

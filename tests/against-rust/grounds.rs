@@ -3,7 +3,7 @@
 //! the grounds that come out are then held against the Rust's price, by waits at which each of them shows.
 
 use crate::bytes::*;
-use crate::machine::{access_size, data_price, kind_after, refusal_with_second, refused, Access, Ran};
+use crate::machine::{access_size, data_price, kind_after, opcode_for_rust, refusal_with_second, refused, Access, Ran};
 use graycart::bus::disable_bug::{arm_likely_i_cycles_no_pc, thumb_likely_i_cycles_no_pc};
 use graycart::bus::region::{decode, BusWidth, Region};
 use graycart::bus::wait::{rom_force_nonseq, AccessKind, AccessSize, RomWindow, WaitTables};
@@ -66,18 +66,37 @@ pub struct Moment<'a> {
 /// The grounds of a step, one a beat.
 pub fn of(moment: &Moment, r: &Record) -> Vec<Ground> {
     match r.kind {
-        READ | WRITE => {
-            let grounds = of_access(moment, r.size, r.address);
-            assert_eq!(worth(&grounds, r, MARKED), Some(data_price(MARKED, moment.previous, r.size, r.address)));
-            grounds
-        }
+        READ | WRITE => of_data(moment, r),
         INSTRUCTION => {
             let grounds = of_fetch(moment, r.size, r.address);
             assert_eq!(grounds, by_price(moment, r.size, r.address));
             grounds
         }
+        BLOCK_READ | BLOCK_WRITE => of_block(moment, r),
         _ => Vec::new(),
     }
+}
+
+fn of_data(moment: &Moment, r: &Record) -> Vec<Ground> {
+    let grounds = of_access(moment, r.size, r.address);
+    assert_eq!(worth(&grounds, r, MARKED), Some(data_price(MARKED, moment.previous, r.size, r.address)));
+    grounds
+}
+
+/// Those of a block's words (W-207), in order: the first follows what was before the block, and each other the one before it.
+fn of_block(moment: &Moment, r: &Record) -> Vec<Ground> {
+    let mut before = *moment;
+    let mut grounds = Vec::new();
+    for word in r.words() {
+        grounds.extend(of_data(&before, &word_of(word)));
+        before.previous = Some((word, AccessSize::Word));
+    }
+    grounds
+}
+
+/// A block's word as an access by itself; whether it is read or written is no matter to its price.
+fn word_of(address: u32) -> Record {
+    Record::new(READ, 4, address, 0)
 }
 
 // ---- fetches ----
@@ -198,10 +217,11 @@ fn worth(grounds: &[Ground], r: &Record, tables: WaitTables) -> Option<u32> {
 }
 
 /// The internal cycle of an instruction, by the Rust's tests.
-fn internal(r: &Record) -> u32 {
+fn internal(version: Version, r: &Record) -> u32 {
+    let opcode = opcode_for_rust(version, r.size, r.value);
     u32::from(match (r.kind, r.size) {
-        (INSTRUCTION, 2) => thumb_likely_i_cycles_no_pc(r.value as u16),
-        (INSTRUCTION, _) => arm_likely_i_cycles_no_pc(r.value),
+        (INSTRUCTION, 2) => thumb_likely_i_cycles_no_pc(opcode as u16),
+        (INSTRUCTION, _) => arm_likely_i_cycles_no_pc(opcode),
         _ => false,
     })
 }
@@ -229,11 +249,12 @@ pub fn unpaid(case: &Case, outcome: &Outcome) -> Option<String> {
     if outcome.report.number != 0 {
         return None;
     }
+    let version = Version::of(&case.sheet)?;
     let mut waitcnt = WaitCnt::from_u16(Board::of(&case.board).waitcnt);
     let steps = outcome.second.chunks_exact(GROUNDS).zip(outcome.answers.chunks_exact(ANSWER));
     for (k, (r, (step, answer))) in records_of(&case.sheet).iter().zip(steps).enumerate() {
         let cycles = Answer::of(answer).cycles;
-        if !pays(step, r, waitcnt.to_tables(), cycles) {
+        if !pays(version, step, r, waitcnt.to_tables(), cycles) {
             return Some(format!("step {k}, {r:X?}, has {cycles} cycles, and its grounds are {}", words_of(step)));
         }
         if r.kind == WAITCNT {
@@ -243,12 +264,25 @@ pub fn unpaid(case: &Case, outcome: &Outcome) -> Option<String> {
     None
 }
 
-fn pays(step: &[u8], r: &Record, tables: WaitTables, cycles: u32) -> bool {
+fn pays(version: Version, step: &[u8], r: &Record, tables: WaitTables, cycles: u32) -> bool {
     let grounds = step.iter().map_while(|&byte| NAMES.iter().find(|(ground, _)| *ground as u8 == byte));
     let grounds: Vec<Ground> = grounds.map(|(ground, _)| *ground).collect();
     let rest = step[grounds.len()..].iter().all(|&byte| byte == 0);
     rest && match r.kind {
-        READ | WRITE | INSTRUCTION => worth(&grounds, r, tables).is_some_and(|sum| sum + internal(r) == cycles),
+        READ | WRITE | INSTRUCTION => worth(&grounds, r, tables).is_some_and(|sum| sum + internal(version, r) == cycles),
+        BLOCK_READ | BLOCK_WRITE => worth_of_words(&grounds, r, tables) == Some(cycles),
         _ => grounds.is_empty(),
     }
+}
+
+/// The cycles of a block's grounds; nothing where they are more or fewer than the beats of its words.
+fn worth_of_words(grounds: &[Ground], r: &Record, tables: WaitTables) -> Option<u32> {
+    let (mut rest, mut sum) = (grounds, 0);
+    for word in r.words() {
+        let beats = if decode(word).bus_width() == Some(BusWidth::Bits16) { 2 } else { 1 };
+        let (own, behind) = rest.split_at_checked(beats)?;
+        sum += worth(own, &word_of(word), tables)?;
+        rest = behind;
+    }
+    rest.is_empty().then_some(sum)
 }

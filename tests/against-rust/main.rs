@@ -2,6 +2,8 @@
 //! byte for byte. See README.md for what is compared and how to run it.
 
 mod bills;
+mod block_lists;
+mod block_sweeps;
 mod boards;
 mod bytes;
 mod compare;
@@ -24,12 +26,14 @@ mod rooms;
 mod rows;
 mod sample;
 mod sample_bills;
+mod sample_blocks;
 mod sample_grounds;
 mod sample_previews;
 mod steps;
 mod sweeps;
 mod tariff;
 mod tariffs;
+mod words;
 
 use bytes::*;
 use compare::{Call, Library};
@@ -47,6 +51,8 @@ struct Tally {
     steps: u64,
     refused: u64,
     pairs: u64,
+    /// Accepted runs and previews with blocks that were done once more with these written out.
+    written_out: u64,
     differences: u64,
     /// Figures and values in words that were held against what the runs gave.
     claims: usize,
@@ -132,7 +138,30 @@ impl Tally {
                 });
             difference.map_or(Ok(library), Err)
         });
+        let compared = compared.and_then(|library| match self.word_by_word(case, call, &library)? {
+            Some(difference) => Err(difference),
+            None => Ok(library),
+        });
         compared.map_err(|what| self.differ(name, &format!("{}: {what}", call.name()))).ok()
+    }
+
+    /// An accepted case with blocks done once more by the same function with these written out: where that gives another thing.
+    fn word_by_word(&mut self, case: &Case, call: Call, whole: &Outcome) -> Result<Option<String>, String> {
+        if whole.report.number != 0 {
+            return Ok(None);
+        }
+        let Some(apart) = words::written_out(case) else { return Ok(None) };
+        self.written_out += 1;
+        let n = record_count(&apart.sheet);
+        let given = match call {
+            Call::Run | Call::Preview => self.library.run(&apart, call)?,
+            Call::RunTariff(&Tariff { rate, .. }) => {
+                let tariff = Tariff { shares: vec![0; SHARE * n], rate };
+                self.library.run(&apart, Call::RunTariff(&tariff))?
+            }
+            Call::RunGrounds(_) => self.library.run(&apart, Call::RunGrounds(&vec![0; GROUNDS * n]))?,
+        };
+        Ok(words::difference(case, call, whole, &given))
     }
 
     /// The Rust side against what is known beforehand: the refusal that was made, and a sound board kept.
@@ -189,6 +218,13 @@ impl Tally {
         for (i, (input, run, preview)) in previews::PREVIEWS.iter().enumerate() {
             let claims: [Claims; 2] = [(run, |given| &given.run), (preview, |given| &given.preview)];
             self.words(&format!("preview:{i}"), input, UNKNOWN, &claims);
+        }
+    }
+
+    fn block_lists(&mut self) {
+        for (i, (list, run, preview)) in block_lists::LISTS.iter().enumerate() {
+            let claims: [Claims; 2] = [(run, |given| &given.grounds), (preview, |given| &given.preview)];
+            self.words(&format!("block:{i}"), &block_lists::input(list), UNKNOWN, &claims);
         }
     }
 
@@ -270,8 +306,11 @@ impl Tally {
     }
 
     fn last_line(&self) -> String {
-        let Tally { cases, steps, refused, pairs, differences, .. } = self;
-        format!("cases {cases}, steps {steps}, refused {refused}, pairs {pairs}: {differences} differences")
+        let Tally { cases, steps, refused, pairs, written_out, differences, .. } = self;
+        format!(
+            "cases {cases}, steps {steps}, refused {refused}, pairs {pairs}, written out {written_out}: \
+             {differences} differences"
+        )
     }
 }
 
@@ -302,7 +341,7 @@ const USAGE: &str = "usage: run [--names] [SECONDS] | SECONDS --from SEED | --ca
 SECONDS: for the random part, 100 if not given
 --from: the random part alone, from this seed on
 NAME: random:SEED (or SEED alone), pair:SEED, bill:SEED, sweep:N, sample:N, figure:N, landing:N, tariff:N, row:N, preview:N,
-    ground:N, D-N.K";
+    ground:N, block:N, D-N.K";
 
 fn order(words: &[String]) -> Option<Order> {
     let words: Vec<&str> = words.iter().map(String::as_str).collect();
@@ -347,6 +386,7 @@ fn compare_all(tally: &mut Tally, seconds: u64) {
     in_words(tally, "the rows", Tally::rows);
     in_words(tally, "the previews", Tally::previews);
     in_words(tally, "the grounds", Tally::ground_lists);
+    in_words(tally, "the blocks", Tally::block_lists);
     in_words(tally, DIFFERENCES, |tally| tally.differences_file(DIFFERENCES));
     tally.sample();
     told(tally, "the sample");
@@ -395,6 +435,7 @@ fn one_case(tally: &mut Tally, name: &str) {
         Some(("row", _)) => tally.rows(),
         Some(("preview", _)) => tally.previews(),
         Some(("ground", _)) => tally.ground_lists(),
+        Some(("block", _)) => tally.block_lists(),
         _ => tally.differences_file(DIFFERENCES),
     }
 }

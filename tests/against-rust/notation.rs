@@ -19,6 +19,7 @@ pub fn case_of(text: &str) -> Result<Case, String> {
 }
 
 struct Setting {
+    version: Version,
     memories: [Vec<u8>; 7],
     bios: Vec<u8>,
     rom: Vec<u8>,
@@ -46,6 +47,7 @@ impl Setting {
     fn bench() -> Setting {
         let lengths = [16_384, 16_384, 2_052, 1_024, 16_384, 1_024, 8_192];
         Setting {
+            version: Version::One,
             memories: lengths.map(|length| vec![0; length]),
             bios: Vec::new(),
             rom: Vec::new(),
@@ -61,7 +63,7 @@ impl Setting {
         let shares = vec![0x3C; SHARE * self.records.len()];
         let grounds = vec![0x3C; GROUNDS * self.records.len()];
         let mut case = Case {
-            sheet: sheet_of(&self.records),
+            sheet: sheet_in(self.version, &self.records),
             board: self.board.bytes(),
             lengths: std::array::from_fn(|i| self.memories[i].len()),
             store: self.memories.concat(),
@@ -124,6 +126,7 @@ impl Setting {
             ["board", "next", address, "in", cycles] => {
                 self.board = Board { next: word(address)?, filling: 1, wait_left: word(cycles)?, ..self.board };
             }
+            ["version", "2"] => self.version = Version::Two,
             ["rate", rate] => self.rate = Some(word(rate)?),
             ["with", "grounds"] => self.with_grounds = true,
             _ => self.records.push(step(words)?),
@@ -170,6 +173,12 @@ fn step(words: &[&str]) -> Option<Record> {
         ["READ", size, "at", address] => Record::new(READ, word(size)? as u8, word(address)?, 0),
         ["WRITE", size, "of", value, "at", address] => {
             Record::new(WRITE, word(size)? as u8, word(address)?, word(value)?)
+        }
+        ["BLOCK", "READ", "of", words, "word" | "words", "at", address] => {
+            Record::new(BLOCK_READ, 4, word(address)?, word(words)?)
+        }
+        ["BLOCK", "WRITE", "of", words, "word" | "words", "at", address] => {
+            Record::new(BLOCK_WRITE, 4, word(address)?, word(words)?)
         }
         ["WAITCNT", value] => Record::new(WAITCNT, 0, 0, word(value)?),
         ["IDLE", cycles] => Record::new(IDLE, 0, 0, word(cycles)?),

@@ -45,11 +45,12 @@ fn shown(lent: &Case, run: &Outcome) -> Outcome {
     Outcome { report: run.report, board: lent.board.clone(), store: Vec::new(), answers, second: Vec::new() }
 }
 
-/// The bytes of an answer that a preview doesn't tell: the value of READ and FETCH, the hits of WRITE.
+/// The bytes of an answer that a preview doesn't tell: the value of READ and FETCH, the hits of WRITE; of blocks the same
+/// (W-207).
 fn zeros(kind: u8) -> std::ops::Range<usize> {
     match kind {
-        READ | FETCH => 0..4,
-        WRITE => 8..9,
+        READ | FETCH | BLOCK_READ => 0..4,
+        WRITE | BLOCK_WRITE => 8..9,
         _ => 0..0,
     }
 }

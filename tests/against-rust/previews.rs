@@ -3,7 +3,7 @@
 
 /// A list of steps, what is claimed of its run and what of its preview, in the notation of docs/DIFFERENCES.md. Besides, in a
 /// list `board buffer at 0x08000100 0x1234` is a board in whose prefetch these halfwords stand, from that address on.
-/// `sheet byte 3 2` and `board byte 2 2` set a byte of what is lent, and `sheet of 7 bytes` cuts it off there or puts zeros
+/// `sheet byte 3 3` and `board byte 2 2` set a byte of what is lent, and `sheet of 7 bytes` cuts it off there or puts zeros
 /// behind it, as with board, answers and store. In a claim `bytes` are the answer of the last step, in hexadecimal, and
 /// `refused 7 at 1` is a refusal with its index.
 pub const PREVIEWS: &[(&str, &str, &str)] = &[
@@ -257,7 +257,7 @@ pub const PREVIEWS: &[(&str, &str, &str)] = &[
     ("sheet byte 0 0x43, IDLE 1", "refused 1", "refused 1"),
     ("sheet of 7 bytes, IDLE 1", "refused 1", "refused 1"),
     ("sheet of 0 bytes", "refused 1", "refused 1"),
-    ("sheet byte 3 2, IDLE 1", "refused 2", "refused 2"),
+    ("sheet byte 3 3, IDLE 1", "refused 2", "refused 2"),
     ("sheet byte 4 1, IDLE 1", "refused 2", "refused 2"),
     ("sheet byte 5 1, IDLE 1", "refused 3", "refused 3"),
     ("sheet byte 6 2, IDLE 1", "refused 3", "refused 3"),
@@ -272,15 +272,15 @@ pub const PREVIEWS: &[(&str, &str, &str)] = &[
     ("IDLE 1, READ 3 at 0x02000000", "refused 7 at 1", "refused 7 at 1"),
     ("sheet byte 11 1, IDLE 1, READ 3 at 0x02000000", "refused 7", "refused 7"),
     // each two of them: the lower number
-    ("sheet byte 0 0x43, sheet byte 3 2, IDLE 1", "refused 1", "refused 1"),
+    ("sheet byte 0 0x43, sheet byte 3 3, IDLE 1", "refused 1", "refused 1"),
     ("sheet byte 0 0x43, sheet byte 5 1, IDLE 1", "refused 1", "refused 1"),
     ("sheet byte 0 0x43, board byte 2 2, IDLE 1", "refused 1", "refused 1"),
     ("sheet byte 0 0x43, answers of 11 bytes, IDLE 1", "refused 1", "refused 1"),
     ("sheet byte 0 0x43, READ 3 at 0x02000000", "refused 1", "refused 1"),
-    ("sheet byte 3 2, sheet byte 5 1, IDLE 1", "refused 2", "refused 2"),
-    ("sheet byte 3 2, board byte 2 2, IDLE 1", "refused 2", "refused 2"),
-    ("sheet byte 3 2, answers of 11 bytes, IDLE 1", "refused 2", "refused 2"),
-    ("sheet byte 3 2, READ 3 at 0x02000000", "refused 2", "refused 2"),
+    ("sheet byte 3 3, sheet byte 5 1, IDLE 1", "refused 2", "refused 2"),
+    ("sheet byte 3 3, board byte 2 2, IDLE 1", "refused 2", "refused 2"),
+    ("sheet byte 3 3, answers of 11 bytes, IDLE 1", "refused 2", "refused 2"),
+    ("sheet byte 3 3, READ 3 at 0x02000000", "refused 2", "refused 2"),
     ("sheet byte 5 1, board byte 2 2, IDLE 1", "refused 3", "refused 3"),
     ("sheet byte 5 1, answers of 11 bytes, IDLE 1", "refused 3", "refused 3"),
     ("sheet byte 5 1, READ 3 at 0x02000000", "refused 3", "refused 3"),
@@ -295,7 +295,7 @@ pub const PREVIEWS: &[(&str, &str, &str)] = &[
         "cycles 6, 6, value 0, hits 0, 0, count 0, flag 0, total 12, previous none",
     ),
     ("store of 5 bytes, sheet byte 0 0x43, IDLE 1", "refused 1", "refused 1"),
-    ("store of 5 bytes, sheet byte 3 2, IDLE 1", "refused 2", "refused 2"),
+    ("store of 5 bytes, sheet byte 3 3, IDLE 1", "refused 2", "refused 2"),
     ("store of 5 bytes, sheet byte 5 1, IDLE 1", "refused 3", "refused 3"),
     ("store of 5 bytes, board byte 2 2, IDLE 1", "refused 4", "refused 5"),
     ("store of 5 bytes, answers of 11 bytes, IDLE 1", "refused 4", "refused 6"),

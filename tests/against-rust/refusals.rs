@@ -8,23 +8,23 @@ use crate::gen::{self, Plan, Rng};
 use crate::machine::{BIOS_SIZE, ROM_WINDOW_SIZE, SIZES};
 use crate::rooms;
 
-pub fn one(rng: &mut Rng) -> Plan {
+pub fn one(rng: &mut Rng, version: Version) -> Plan {
     let number = 1 + rng.below(8) as u32;
-    with_second(rng, &[number])
+    with_second(rng, version, &[number])
 }
 
 /// Two conditions or more: the first in the table's order decides.
-pub fn several(rng: &mut Rng) -> Plan {
+pub fn several(rng: &mut Rng, version: Version) -> Plan {
     let numbers = set_of(1 + rng.below(255));
-    with_second(rng, &numbers)
+    with_second(rng, version, &numbers)
 }
 
 /// Under a tariff or, if 8 isn't among them, with grounds.
-fn with_second(rng: &mut Rng, numbers: &[u32]) -> Plan {
+fn with_second(rng: &mut Rng, version: Version, numbers: &[u32]) -> Plan {
     let short = rng.pick(&SHORT);
     match numbers.contains(&8) || rng.percent(50) {
-        true => under_tariff(rng, numbers, short),
-        false => with_grounds(rng, numbers, short),
+        true => under_tariff(rng, version, numbers, short),
+        false => with_grounds(rng, version, numbers, short),
     }
 }
 
@@ -33,9 +33,9 @@ pub fn set_of(set: usize) -> Vec<u32> {
     (1..=8).filter(|k| set >> (k - 1) & 1 == 1).collect()
 }
 
-/// An accepted plan with these conditions made true (given in rising order).
-pub fn with(rng: &mut Rng, numbers: &[u32]) -> Plan {
-    let mut plan = some_steps(rng);
+/// An accepted plan, whose sheet is of this version, with these conditions made true (given in rising order).
+pub fn with(rng: &mut Rng, version: Version, numbers: &[u32]) -> Plan {
+    let mut plan = some_steps(rng, version);
     make_true(rng, &mut plan, numbers);
     plan
 }
@@ -51,8 +51,8 @@ pub enum Short {
 pub const SHORT: [Short; 3] = [Short::Answers, Short::Second, Short::Both];
 
 /// The same under a tariff, for which 8 is a bad rate. Without a tariff 8 isn't met, nor is 6 where only the shares are short.
-pub fn under_tariff(rng: &mut Rng, numbers: &[u32], short: Short) -> Plan {
-    let mut plan = some_steps(rng);
+pub fn under_tariff(rng: &mut Rng, version: Version, numbers: &[u32], short: Short) -> Plan {
+    let mut plan = some_steps(rng, version);
     let shares_len = second_len(rng, &plan, SHARE, numbers, short);
     let rate = if numbers.contains(&8) { bills::bad_rate(rng) } else { bills::good_rate(rng) };
     make_true(rng, &mut plan, &of_run(numbers, short));
@@ -60,8 +60,8 @@ pub fn under_tariff(rng: &mut Rng, numbers: &[u32], short: Short) -> Plan {
 }
 
 /// The same with a buffer for the grounds. Without it 6 isn't met where it alone is short.
-pub fn with_grounds(rng: &mut Rng, numbers: &[u32], short: Short) -> Plan {
-    let mut plan = some_steps(rng);
+pub fn with_grounds(rng: &mut Rng, version: Version, numbers: &[u32], short: Short) -> Plan {
+    let mut plan = some_steps(rng, version);
     let len = second_len(rng, &plan, GROUNDS, numbers, short);
     make_true(rng, &mut plan, &of_run(numbers, short));
     plan.grounded(len, numbers.first().copied().unwrap_or(0))
@@ -81,10 +81,10 @@ fn of_run(numbers: &[u32], short: Short) -> Vec<u32> {
 }
 
 /// An accepted plan with a record, which 6 and 7 need.
-fn some_steps(rng: &mut Rng) -> Plan {
-    let mut plan = gen::accepted(rng, 1);
+fn some_steps(rng: &mut Rng, version: Version) -> Plan {
+    let mut plan = gen::accepted(rng, version, 1);
     while plan.sheet.len() == HEADER {
-        plan = gen::accepted(rng, 1);
+        plan = gen::accepted(rng, version, 1);
     }
     plan
 }
@@ -115,8 +115,9 @@ fn no_sheet(rng: &mut Rng, plan: &mut Plan) {
     }
 }
 
+/// A version that there isn't; each byte of some is that of one that there is.
 fn other_version(rng: &mut Rng, plan: &mut Plan) {
-    let version: u16 = rng.pick(&[0, 2, 3, 0x0100, 0x0101, 0x8001, 0xFFFF]);
+    let version: u16 = rng.pick(&[0, 0x0200, 3, 0x0100, 0x0101, 0x8001, 0xFFFF]);
     plan.sheet[3..5].copy_from_slice(&version.to_le_bytes());
 }
 
@@ -198,19 +199,21 @@ fn answers_short(rng: &mut Rng, plan: &mut Plan) {
 /// One record that breaks the layout, or several.
 fn record_faulty(rng: &mut Rng, plan: &mut Plan) {
     let n = record_count(&plan.sheet);
+    let version = Version::of(&plan.sheet).unwrap();
     for _ in 0..rng.pick(&[1, 1, 2, 3]) {
         let at = HEADER + RECORD * rng.below(n);
-        let faulty = faulty_record(rng, Record::of(&plan.sheet[at..]));
+        let faulty = faulty_record(rng, version, Record::of(&plan.sheet[at..]));
         plan.sheet[at..at + RECORD].copy_from_slice(&faulty.bytes());
     }
 }
 
 /// The record with one field wrong.
-fn faulty_record(rng: &mut Rng, r: Record) -> Record {
+fn faulty_record(rng: &mut Rng, version: Version, r: Record) -> Record {
     let r = match rng.below(8) {
-        0 => Record { kind: rng.pick(&[0, 10, 11, 99, 255]), ..r },
+        0 => Record { kind: rng.pick(no_kinds(version)), ..r },
         1 => Record { size: rng.pick(&[3, 5, 8, 255]), ..r },
         2 if matches!(r.kind, READ | WRITE | INSTRUCTION) => Record { size: 0, ..r },
+        2 if r.is_block() => Record { size: rng.pick(&[0, 1, 2]), ..r },
         2 => Record { size: rng.pick(&[1, 2, 4]), ..r },
         3 => Record { flag: if r.kind == INSTRUCTION { 2 } else { 1 }, ..r },
         4 => Record { flag: 2 + rng.below(254) as u8, ..r },
@@ -219,15 +222,30 @@ fn faulty_record(rng: &mut Rng, r: Record) -> Record {
         6 | 7 => match r.kind {
             READ | FETCH | RESTART | PC => Record { value: 1 << rng.below(32), ..r },
             WAITCNT => Record { value: r.value | 0x1_0000 << rng.below(16), ..r },
+            BLOCK_READ | BLOCK_WRITE if rng.percent(50) => Record { value: rng.pick(&[0, 17]), ..r },
+            BLOCK_READ | BLOCK_WRITE => Record { value: rng.pick(&NO_WORDS), ..r },
             _ => Record { kind: 0, ..r },
         },
         _ => unreachable!(),
     };
-    assert!(r.faulty());
+    assert!(r.faulty_in(version));
     r
 }
 
-/// A record of each fault, the two of kind and size first.
+/// Kinds that a version doesn't have. It has a table of kinds, so that the next behind its last count.
+fn no_kinds(version: Version) -> &'static [u8] {
+    match version {
+        Version::One => &[0, 10, 11, 99, 255],
+        Version::Two => &[0, 12, 13, 99, 255],
+    }
+}
+
+/// Numbers of words that no block has, some of them good in their low byte or half.
+pub const NO_WORDS: [u32; 12] = [
+    0, 17, 18, 31, 32, 255, 256, 0x0101, 0x1_0000, 0x1_0001, 0x8000_0001, u32::MAX,
+];
+
+/// A record of each fault, the two of kind and size first. They are faults in both versions.
 pub fn faults() -> [Record; 6] {
     let read = Record::new(READ, 4, 0x0200_0000, 0);
     [
@@ -240,9 +258,18 @@ pub fn faults() -> [Record; 6] {
     ]
 }
 
+/// A good version 2 sheet that says it is of version 1: its first block, if it has one, is a faulty record, and all else is good.
+pub fn blocks_in_one(rng: &mut Rng) -> Plan {
+    let mut plan = gen::accepted(rng, Version::Two, 1);
+    let block = records_of(&plan.sheet).iter().any(Record::is_block);
+    plan.sheet[3] = Version::One as u8;
+    plan.meant = Some(if block { 7 } else { 0 });
+    plan
+}
+
 /// A good case with a few random bytes of its sheet or its board changed; it may still be accepted.
-pub fn damaged(rng: &mut Rng) -> Plan {
-    let mut plan = gen::accepted(rng, 1);
+pub fn damaged(rng: &mut Rng, version: Version) -> Plan {
+    let mut plan = gen::accepted(rng, version, 1);
     plan.meant = None;
     for _ in 0..1 + rng.below(3) {
         let bytes = match rng.below(10) {

@@ -11,6 +11,7 @@ use crate::notation;
 use crate::refusals;
 use crate::rows::ROWS;
 use crate::sample_bills;
+use crate::sample_blocks;
 use crate::sample_grounds;
 use crate::sample_previews;
 use crate::steps::Steps;
@@ -57,10 +58,12 @@ pub fn entries() -> Vec<Entry> {
     let runs = runs().into_iter().map(|plan| Entry { plan, preview: false });
     let previews = sample_previews::plans().into_iter().map(|plan| Entry { plan, preview: true });
     let grounds = sample_grounds::plans().into_iter().map(|plan| Entry { plan, preview: false });
-    runs.chain(previews).chain(grounds).collect()
+    let two = sample_blocks::runs().into_iter().map(|plan| Entry { plan, preview: false });
+    let two_previews = sample_blocks::previews().into_iter().map(|plan| Entry { plan, preview: true });
+    runs.chain(previews).chain(grounds).chain(two).chain(two_previews).collect()
 }
 
-/// Those of runs without grounds, at last the ones under a tariff.
+/// Those of version 1 runs without grounds, at last the ones under a tariff.
 fn runs() -> Vec<Plan> {
     let mut plans = Vec::new();
     figures(&mut plans);
@@ -100,15 +103,20 @@ fn figures(plans: &mut Vec<Plan>) {
 
 /// A random list from a sound board over small memories: by its sort at any place (0), along code (1) or in rows of accesses.
 pub fn random_list(rng: &mut Rng, sort: u64, count: usize) -> Plan {
+    random_list_in(Version::One, rng, sort, count)
+}
+
+/// The same on a sheet of a version.
+pub fn random_list_in(version: Version, rng: &mut Rng, sort: u64, count: usize) -> Plan {
     let memories = Memories::random(rng, 0);
     let board = boards::any_sound(rng);
-    let steps = Steps::new(rng, &memories);
+    let steps = Steps::in_version(version, rng, &memories);
     let records = match sort {
         0 => steps.mixed(count),
         1 => steps.code_run(count, &board),
         _ => steps.rows(count, &board),
     };
-    Plan::accepted(board, &memories, &records)
+    Plan::accepted_in(version, board, &memories, &records)
 }
 
 /// Random lists of steps, 60 of each of the first two sorts and 30 rows of accesses.
@@ -191,15 +199,15 @@ fn previous_accesses(plans: &mut Vec<Plan>) {
 fn refused(plans: &mut Vec<Plan>) {
     for first in 1..=7 {
         for turn in 0..5 {
-            plans.push(small_enough(1500, 100 * u64::from(first) + turn, |rng| refusals::with(rng, &[first])));
+            plans.push(small_enough(1500, 100 * u64::from(first) + turn, |rng| refusals::with(rng, Version::One, &[first])));
         }
         for second in first + 1..=7 {
             let seed = u64::from(10 * first + second);
-            plans.push(small_enough(1500, seed, |rng| refusals::with(rng, &[first, second])));
+            plans.push(small_enough(1500, seed, |rng| refusals::with(rng, Version::One, &[first, second])));
         }
     }
     for seed in 0..20 {
-        plans.push(small_enough(1500, 5000 + seed, refusals::damaged));
+        plans.push(small_enough(1500, 5000 + seed, |rng| refusals::damaged(rng, Version::One)));
     }
 }
 

@@ -1,4 +1,4 @@
-//! The sample's cases under a tariff (document 02, W-202), which stand behind all other runs without grounds.
+//! The sample's cases under a tariff (document 02, W-202), which stand behind all other version 1 runs without grounds.
 
 use crate::bills::{self, MILLION};
 use crate::bytes::*;
@@ -78,7 +78,7 @@ fn lists(plans: &mut Vec<Plan>) {
 fn refused(plans: &mut Vec<Plan>) {
     let mut push = |numbers: &[u32], short: Short| {
         let seed = numbers.iter().fold(40_000, |sum, &number| 10 * sum + u64::from(number));
-        plans.push(small_enough(300, seed, |rng| refusals::under_tariff(rng, numbers, short)));
+        plans.push(small_enough(300, seed, |rng| refusals::under_tariff(rng, Version::One, numbers, short)));
     };
     for first in 1..=8 {
         push(&[first], Short::Second);

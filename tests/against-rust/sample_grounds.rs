@@ -1,4 +1,4 @@
-//! The sample's runs with grounds (document 02, W-206), which stand behind all others.
+//! The sample's version 1 runs with grounds (document 02, W-206), which stand behind all other cases of that version.
 
 use crate::boards::CODE_EDGES;
 use crate::bytes::*;
@@ -67,7 +67,7 @@ fn lengths(plans: &mut Vec<Plan>) {
 fn refused(plans: &mut Vec<Plan>) {
     let mut push = |numbers: &[u32], short: Short| {
         let seed = numbers.iter().fold(70_000, |sum, &number| 10 * sum + u64::from(number));
-        plans.push(small_enough(200, seed, |rng| refusals::with_grounds(rng, numbers, short)));
+        plans.push(small_enough(200, seed, |rng| refusals::with_grounds(rng, Version::One, numbers, short)));
     };
     for first in 1..=7 {
         push(&[first], Short::Second);

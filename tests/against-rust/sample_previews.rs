@@ -1,4 +1,4 @@
-//! The sample's previews (document 02, W-205), which stand behind all runs. They lend no memories.
+//! The sample's previews (document 02, W-205), which stand behind the version 1 runs. They lend no memories.
 
 use crate::boards;
 use crate::bytes::*;
@@ -60,7 +60,7 @@ fn refused(plans: &mut Vec<Plan>) {
     const SIX: [u32; 6] = [1, 2, 3, 5, 6, 7];
     let mut push = |numbers: &[u32]| {
         let seed = numbers.iter().fold(52_000, |sum, &number| 10 * sum + u64::from(number));
-        plans.push(small_enough(300, seed, |rng| refusals::with(rng, numbers)));
+        plans.push(small_enough(300, seed, |rng| refusals::with(rng, Version::One, numbers)));
     };
     for (i, &first) in SIX.iter().enumerate() {
         push(&[first]);

@@ -1,6 +1,6 @@
 //! Lists of steps over the places where a rule changes.
 
-use crate::boards::{program_counter, row_place, CODE_EDGES};
+use crate::boards::{program_counter, row_place, CODE_EDGES, ROW_EDGES};
 use crate::bytes::*;
 use crate::gen::{Memories, Rng};
 
@@ -51,12 +51,24 @@ const ARM: [(u32, u32); 9] = [
 const THUMB: [u32; 12] =
     [0x48, 0x4F, 0x68, 0x6F, 0x98, 0x9F, 0xC8, 0xCF, 0xBA, 0xBB, 0xBC, 0x1C];
 
+/// The opcode bytes by which the versions differ (W-207).
+const POPS: [u32; 4] = [0xBA, 0xBB, 0xBC, 0xBD];
+
+/// Where a block may change something that others look at: I/O byte 0, which has the display mode, and the video memories.
+const SEEN_AGAIN: [u32; 5] = [0x0400_0000, 0x0500_0000, 0x0600_0000, 0x0601_0000, 0x0700_0000];
+
 /// A READ or a WRITE, for which W-204 has one rule.
 pub fn load_or_store(rng: &mut Rng, size: u8, address: u32) -> Record {
     if rng.percent(60) { Record::new(READ, size, address, 0) } else { Record::new(WRITE, size, address, rng.u32()) }
 }
 
+/// Where a block's last word ends.
+pub fn block_end(block: &Record) -> u32 {
+    lowered(block.address, 4).wrapping_add(4 * block.value)
+}
+
 pub struct Steps<'a> {
+    version: Version,
     rng: &'a mut Rng,
     memories: &'a Memories,
     /// The last address used: stores are worth reading back, and neighbours worth a look.
@@ -64,8 +76,18 @@ pub struct Steps<'a> {
 }
 
 impl<'a> Steps<'a> {
+    /// Those of version 1.
     pub fn new(rng: &'a mut Rng, memories: &'a Memories) -> Steps<'a> {
-        Steps { rng, memories, recent: 0x0200_0000 }
+        Steps::in_version(Version::One, rng, memories)
+    }
+
+    pub fn in_version(version: Version, rng: &'a mut Rng, memories: &'a Memories) -> Steps<'a> {
+        Steps { version, rng, memories, recent: 0x0200_0000 }
+    }
+
+    /// True p times in a hundred, in version 2 alone: version 1 lists stay what they were.
+    fn in_two(&mut self, p: usize) -> bool {
+        self.version == Version::Two && self.rng.percent(p)
     }
 
     /// Steps of all kinds at any place.
@@ -101,6 +123,9 @@ impl<'a> Steps<'a> {
 
     /// One step among rows; `at` is where the last access ended.
     fn row_step(&mut self, at: &mut u32) -> Record {
+        if self.in_two(25) {
+            return self.row_block(at);
+        }
         match self.rng.below(100) {
             0..=71 => self.row_access(at),
             72..=77 => {
@@ -128,6 +153,16 @@ impl<'a> Steps<'a> {
         load_or_store(self.rng, size, start + above)
     }
 
+    /// A block that goes on at a place, or begins a row near an edge. `at` moves to its end.
+    fn row_block(&mut self, at: &mut u32) -> Record {
+        if self.rng.percent(20) {
+            *at = self.block_address();
+        }
+        let block = self.block_at(*at);
+        *at = block_end(&block);
+        block
+    }
+
     /// A step that may break a row off or not: all other kinds, and an access elsewhere.
     fn between(&mut self) -> Record {
         match self.rng.below(10) {
@@ -145,6 +180,10 @@ impl<'a> Steps<'a> {
 
     /// One step of a code run; `at` moves on.
     fn code_step(&mut self, at: &mut u32) -> Record {
+        if self.in_two(8) {
+            let address = self.block_address();
+            return self.block_at(address);
+        }
         let odd = u32::from(self.rng.percent(8));
         let here = *at | odd;
         match self.rng.below(100) {
@@ -176,6 +215,10 @@ impl<'a> Steps<'a> {
     }
 
     fn any(&mut self) -> Record {
+        if self.in_two(20) {
+            let address = self.block_address();
+            return self.block_at(address);
+        }
         match self.rng.below(100) {
             0..=21 => self.read(),
             22..=47 => self.write(),
@@ -202,6 +245,33 @@ impl<'a> Steps<'a> {
         Record::new(WRITE, size, self.address(), self.rng.u32())
     }
 
+    /// A block of 1 to 16 words, most often of 1, 2 or 16; what comes behind it is often near its end.
+    fn block_at(&mut self, address: u32) -> Record {
+        let words = if self.rng.percent(40) { self.rng.pick(&[1, 2, 16]) } else { 1 + self.rng.below(16) as u32 };
+        let block = Record::new(self.rng.pick(&[BLOCK_READ, BLOCK_WRITE]), 4, address, words);
+        self.recent = block_end(&block);
+        block
+    }
+
+    /// Mostly so far below a place where a rule changes that a block of 16 words just reaches it, or less far; at any residue.
+    fn block_address(&mut self) -> u32 {
+        match self.rng.below(100) {
+            0..=24 => self.below(&EDGES),
+            25..=44 => self.below(&ROW_EDGES),
+            45..=54 => self.below(&SEEN_AGAIN),
+            55..=74 => {
+                let end = self.memory_end();
+                self.rng.near(end, 64, 4)
+            }
+            _ => self.address(),
+        }
+    }
+
+    fn below(&mut self, edges: &[u32]) -> u32 {
+        let edge = self.rng.pick(edges);
+        self.rng.near(edge, 67, 4)
+    }
+
     fn instruction_anywhere(&mut self, size: u8) -> Record {
         let address = self.code_address();
         self.instruction(size, address)
@@ -221,7 +291,8 @@ impl<'a> Steps<'a> {
     }
 
     fn thumb(&mut self) -> u32 {
-        let opcode = self.rng.pick(&THUMB) << 8 | self.rng.u32() & 0xFF;
+        let high = if self.in_two(30) { self.rng.pick(&POPS) } else { self.rng.pick(&THUMB) };
+        let opcode = high << 8 | self.rng.u32() & 0xFF;
         let opcode = if self.rng.percent(33) { opcode ^ 1 << self.rng.below(16) } else { opcode };
         if self.rng.percent(30) { opcode | self.rng.u32() << 16 } else { opcode }
     }

@@ -1,7 +1,8 @@
 //! Inputs gone through one by one: header, record and board bytes, opcodes, WAITCNT, regions, lengths, rates, rows of accesses;
-//! those for the grounds are in ground_sweeps.rs.
+//! those for the grounds are in ground_sweeps.rs, and those for version 2 in block_sweeps.rs.
 
 use crate::bills::{self, MILLION};
+use crate::block_sweeps;
 use crate::boards::{self, CODE_EDGES, ROW_EDGES};
 use crate::bytes::*;
 use crate::gen::{Memories, Plan, Rng};
@@ -36,13 +37,14 @@ pub fn for_each(visit: &mut dyn FnMut(Plan)) {
     previous_fields(visit);
     steps_between(visit);
     ground_sweeps::for_each(visit);
+    block_sweeps::for_each(visit);
 }
 
 pub fn small() -> Memories {
     Memories { lengths: [40, 33, 8, 16, 24, 5, 7], bios: 32, rom: 0x140 }
 }
 
-fn full() -> Memories {
+pub fn full() -> Memories {
     Memories { lengths: SIZES, bios: BIOS_SIZE, rom: 0x20010 }
 }
 
@@ -71,16 +73,17 @@ pub fn one_of_each() -> Vec<Record> {
     ]
 }
 
-/// Every set of the eight refusals under a tariff, 6 by either buffer and by both, eight times. Without the tariff they are the
-/// sets of the seven, and for the preview those of the six without 4; some are accepted.
+/// Every set of the eight refusals under a tariff, 6 by either buffer and by both, eight times, on sheets of both versions by
+/// turns. Without the tariff they are the sets of the seven, and for the preview those of the six without 4; some are accepted.
 fn refusal_sets(visit: &mut dyn FnMut(Plan)) {
     for set in 1..256 {
         let numbers = refusals::set_of(set);
         let ways = if numbers.contains(&6) { &SHORT[..] } else { &SHORT[..1] };
         for (way, &short) in ways.iter().enumerate() {
             for turn in 0..8 {
+                let version = VERSIONS[turn % 2];
                 let seed = 1000 * set + 10 * way + turn;
-                visit(refusals::under_tariff(&mut Rng::new(seed as u64), &numbers, short));
+                visit(refusals::under_tariff(&mut Rng::new(seed as u64), version, &numbers, short));
             }
         }
     }
@@ -413,7 +416,7 @@ pub const ENDS: [[usize; 7]; 3] = [
 ];
 
 /// The start of each memory, by its number in the store, and of a mirror of it; VRAM's last 32 KiB are there twice.
-const STARTS: [(usize, u32); 15] = [
+pub const STARTS: [(usize, u32); 15] = [
     (0, 0x0200_0000), (0, 0x02FC_0000), (1, 0x0300_0000), (1, 0x03FF_8000), (2, 0x0400_0000), (2, 0x04FF_0000),
     (3, 0x0500_0000), (3, 0x05FF_FC00), (4, 0x0600_0000), (4, 0x0600_8000), (4, 0x06FE_0000),
     (5, 0x0700_0000), (5, 0x07FF_FC00), (6, 0x0E00_0000), (6, 0x0FFF_0000),

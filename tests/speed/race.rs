@@ -1,7 +1,7 @@
 //! Two sides on the same sheets, by turns, and the table of their times.
 
 use crate::bus::region::BIOS_SIZE;
-use crate::bytes::sheet_of;
+use crate::bytes::sheet_in;
 use crate::memories::{Memories, SIZES};
 use crate::sheets::{self, Sort};
 use crate::sides::{Given, Lent, Match, Side};
@@ -9,10 +9,29 @@ use crate::timing::Sorted;
 
 // ---- one sort on both sides ----
 
-/// A sheet, and each side's times on it of all rounds so far, in ns a record.
+/// A sheet, that of the second side where it isn't the same, and each side's times of all rounds so far, in ns a unit.
 struct Sheet {
     bytes: Vec<u8>,
+    apart: Option<Vec<u8>>,
     times: [Vec<f64>; 2],
+}
+
+impl Sheet {
+    fn new(sort: &Sort, number: u64, between: &Match) -> Sheet {
+        let records = (sort.records)(number);
+        Sheet {
+            bytes: sheet_in(sort.version, &records),
+            apart: between.apart.map(|apart| sheet_in(sort.version, &apart(&records))),
+            times: [Vec::new(), Vec::new()],
+        }
+    }
+
+    fn bytes_for(&self, side: usize) -> &[u8] {
+        match &self.apart {
+            Some(apart) if side == 1 => apart,
+            _ => &self.bytes,
+        }
+    }
 }
 
 /// The sheets of a sort, with the two sides.
@@ -26,13 +45,9 @@ struct Race {
 impl Race {
     fn new(sort: &'static Sort, count: usize, between: &'static Match) -> Race {
         let memories = Memories::random(7, SIZES, BIOS_SIZE, sheets::ROM_LEN);
-        let sheet = |number| Sheet {
-            bytes: sheet_of(&(sort.records)(number as u64)),
-            times: [Vec::new(), Vec::new()],
-        };
         Race {
             sort,
-            sheets: (0..count).map(sheet).collect(),
+            sheets: (0..count).map(|number| Sheet::new(sort, number as u64, between)).collect(),
             between,
             sides: (between.sides)(&memories),
         }
@@ -48,7 +63,7 @@ impl Race {
 
     fn run(&mut self, lent: &mut Lent, number: usize, side: usize) -> Result<Given, String> {
         let sheet = &mut self.sheets[number];
-        let (ns, given) = lent.time(&sheet.bytes, self.sides[side].as_mut())?;
+        let (ns, given) = lent.time(sheet.bytes_for(side), self.sides[side].as_mut())?;
         sheet.times[side].push(ns);
         Ok(given)
     }
@@ -155,12 +170,13 @@ impl Table {
             }
         }
         let by_turns = if count > 1 { " by turns" } else { "" };
-        let what = format!("sheets of each sort: {count}{by_turns}, of {} records, {rounds} rounds", sheets::RECORDS);
+        let Match { unit, .. } = between;
+        let what = format!("sheets of each sort: {count}{by_turns}, of {} {unit}s, {rounds} rounds", sheets::RECORDS);
         Ok(Table { name, what, between, races })
     }
 
     pub fn print(&self) {
-        println!("{}: {}; ns a record, in brackets the quartiles", self.name, self.what);
+        println!("{}: {}; ns a {}, in brackets the quartiles", self.name, self.what, self.between.unit);
         let [first, second] = self.between.names;
         println!("{:<36} {first:^32} {second:^32} {:^20}", "", format!("{first} / {second}"));
         let head = format!("{:>7} {:>7} {:>15}", "best", "median", "");

@@ -2,6 +2,8 @@
 //! Nothing is allocated or copied in a run but the 80 bytes of the board: the memories are the bus's own `Vec`s, set up before.
 //! It does the same work as `bts_run`: it examines header, board and records, runs, counts the bytes that each store writes,
 //! keeps the previous data access, and writes answers and board.
+//! Of version 2 (document 02, W-207) it has the blocks, and not the other opcodes of Thumb's POP: no version 2 sheet here has an
+//! INSTRUCTION, and the four sorts of version 1 would pay for it.
 
 use crate::bus::mirror::{io_offset, vram_offset};
 use crate::bus::prefetch::PrefetchParts;
@@ -99,9 +101,9 @@ impl Machine {
         if sheet.len() < HEADER || sheet[0..3] != *b"BTS" {
             return Some((1, 0));
         }
-        if u16_at(sheet, 3) != 1 {
+        let Some(version) = Version::of(sheet) else {
             return Some((2, 0));
-        }
+        };
         let n = usize::from(u16_at(sheet, 6));
         if sheet[5] != 0 || n > MOST_RECORDS || sheet.len() != HEADER + RECORD * n {
             return Some((3, 0));
@@ -117,8 +119,12 @@ impl Machine {
         if answers.len() < ANSWER * n {
             return Some((6, 0));
         }
+        let rules = match version {
+            Version::One => &RULES,
+            Version::Two => &RULES_WITH_BLOCKS,
+        };
         let mut records = sheet[HEADER..].chunks_exact(RECORD);
-        let least = records.position(|record| Fields::of(record).faulty())?;
+        let least = records.position(|record| Fields::of(record).faulty(rules))?;
         Some((7, least as u32))
     }
 
@@ -205,11 +211,43 @@ impl Machine {
                 self.bus.cpu_pc = r.address;
                 NOTHING
             }
+            BLOCK_READ => {
+                let (value, cycles) = self.block_read(r.address, r.value);
+                Done { value, cycles, hits: 0, idle: 0 }
+            }
+            BLOCK_WRITE => {
+                let (hits, cycles) = self.block_write(r.address, r.value);
+                Done { value: 0, cycles, hits, idle: 0 }
+            }
             _ => {
                 self.bus.open_bus.last_bios_opcode = r.value;
                 NOTHING
             }
         }
+    }
+
+    /// The Rust's load once a word: the last word, and the price of all. Never inlined, nor is the other block, and neither is
+    /// handed the record itself: the steps that version 1 has too would be slower.
+    #[inline(never)]
+    fn block_read(&mut self, address: u32, words: u32) -> (u32, u32) {
+        let (mut value, mut cycles) = (0, 0);
+        for at in words_from(address, words) {
+            value = self.read(4, at);
+            cycles += self.data_price(4, at);
+        }
+        (value, cycles)
+    }
+
+    /// The Rust's store of 0 once a word: the bytes that landed, counted as those of a WRITE, and the price of all.
+    #[inline(never)]
+    fn block_write(&mut self, address: u32, words: u32) -> (u8, u32) {
+        let (mut hits, mut cycles) = (0, 0);
+        for at in words_from(address, words) {
+            hits += self.landed(4, at);
+            self.write(4, at, 0);
+            cycles += self.data_price(4, at);
+        }
+        (hits, cycles)
     }
 
     #[inline(always)]
@@ -337,6 +375,13 @@ impl Machine {
     }
 }
 
+/// The addresses of a block's words: upwards from its own lowered to a multiple of 4, modulo 2^32.
+#[inline(always)]
+fn words_from(address: u32, words: u32) -> impl Iterator<Item = u32> {
+    let first = lowered(address, 4);
+    (0..words).map(move |i| first.wrapping_add(4 * i))
+}
+
 #[inline(always)]
 fn access_size(bytes: u8) -> AccessSize {
     match bytes {
@@ -414,35 +459,38 @@ impl Fields {
 
     /// Without a jump on the kind: what a kind allows is looked up.
     #[inline(always)]
-    fn faulty(&self) -> bool {
-        let rule = &RULES[(self.head & 15) as usize];
+    fn faulty(&self, rules: &[Rule; 16]) -> bool {
+        let rule = &rules[(self.head & 15) as usize];
         let size_and_flag = (self.head >> 8 & 7) | (self.head >> 13 & 8);
         (self.head & !(15 | 7 << 8 | 1 << 16) != 0)
             | (rule.sizes_and_flags >> size_and_flag & 1 == 0)
             | (self.address & rule.no_address != 0)
-            | (self.value & rule.no_value != 0)
+            | (self.value.wrapping_sub(rule.least_value) & rule.no_value != 0)
     }
 }
 
-/// What a kind allows: the sizes (bits 0 to 7, or 8 to 15 with flag 1); and the bits that address and value must not have.
+/// What a kind allows: the sizes (bits 0 to 7, or 8 to 15 with flag 1); the bits that the address must not have, and those that
+/// the value must not have above the least one.
 #[derive(Clone, Copy)]
 struct Rule {
     sizes_and_flags: u32,
     no_address: u32,
     no_value: u32,
+    least_value: u32,
 }
 
 const ALL: u32 = u32::MAX;
 const NO_SIZE: u32 = 1 << 0;
 const ANY_SIZE: u32 = 1 << 1 | 1 << 2 | 1 << 4;
 const CODE_SIZE: u32 = (1 << 2 | 1 << 4) * 0x101;
+const WORD_SIZE: u32 = 1 << 4;
 
 const fn rule(sizes_and_flags: u32, no_address: u32, no_value: u32) -> Rule {
-    Rule { sizes_and_flags, no_address, no_value }
+    Rule { sizes_and_flags, no_address, no_value, least_value: 0 }
 }
 
-/// By kind; those outside the table allow no size.
-static RULES: [Rule; 16] = {
+/// By kind, in version 1; those outside the table allow no size.
+const RULES: [Rule; 16] = {
     let mut rules = [rule(0, 0, 0); 16];
     rules[READ as usize] = rule(ANY_SIZE, 0, ALL);
     rules[WRITE as usize] = rule(ANY_SIZE, 0, 0);
@@ -453,5 +501,14 @@ static RULES: [Rule; 16] = {
     rules[INSTRUCTION as usize] = rule(CODE_SIZE, 0, 0);
     rules[PC as usize] = rule(NO_SIZE, 0, ALL);
     rules[LATCH as usize] = rule(NO_SIZE, ALL, 0);
+    rules
+};
+
+/// In version 2: a block has one word or up to 15 more.
+const RULES_WITH_BLOCKS: [Rule; 16] = {
+    let mut rules = RULES;
+    let block = Rule { least_value: 1, ..rule(WORD_SIZE, 0, !(MOST_WORDS - 1)) };
+    rules[BLOCK_READ as usize] = block;
+    rules[BLOCK_WRITE as usize] = block;
     rules
 };

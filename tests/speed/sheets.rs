@@ -66,6 +66,11 @@ fn write(rng: &mut Rng) -> Record {
     Record::new(WRITE, size, data_address(rng, size), rng.u32())
 }
 
+/// A block of so many words, at such a place as a READ or a WRITE of a word has (document 02, W-207).
+fn block(rng: &mut Rng, kind: u8, words: u32) -> Record {
+    Record::new(kind, 4, data_address(rng, 4), words)
+}
+
 /// Code that goes on from instruction to instruction, Thumb or ARM for a while, with jumps.
 struct Code {
     at: u32,
@@ -132,21 +137,41 @@ pub struct Sort {
     pub word: &'static str,
     /// Whether the library must not be slower here.
     pub judged: bool,
-    /// The records of the sheet with a number; `RECORDS` of them.
+    pub version: Version,
+    /// The records of the sheet with a number; `RECORDS` of them, or blocks of so many words together.
     pub records: fn(u64) -> Vec<Record>,
 }
 
 pub static SORTS: [Sort; 5] = [
-    Sort { name: "mixed kinds", word: "mixed", judged: true, records: |number| mixed(RECORDS, number) },
-    Sort { name: "INSTRUCTION in ROM, prefetch on", word: "instruction", judged: true, records: instructions },
-    Sort { name: "READ and WRITE", word: "access", judged: true, records: reads_and_writes },
-    Sort { name: "IDLE 1", word: "idle", judged: true, records: idle_1 },
-    Sort { name: "IDLE 1, always filling (not judged)", word: "filling", judged: false, records: idle_1_filling },
+    in_one("mixed kinds", "mixed", true, |number| mixed(RECORDS, number)),
+    in_one("INSTRUCTION in ROM, prefetch on", "instruction", true, instructions),
+    in_one("READ and WRITE", "access", true, reads_and_writes),
+    in_one("IDLE 1", "idle", true, idle_1),
+    in_one("IDLE 1, always filling (not judged)", "filling", false, idle_1_filling),
 ];
 
 /// In none of the sorts above does an access to ROM go on where the one before it ended (document 02, W-204). This one has a
 /// table of its own, since one sheet more between those of the first makes all of them slower.
-pub static ROWS: Sort = Sort { name: "READ and WRITE in rows (not judged)", word: "rows", judged: false, records: copies };
+pub static ROWS: Sort = in_one("READ and WRITE in rows (not judged)", "rows", false, copies);
+
+/// Blocks (document 02, W-207) have tables of their own for the same reason.
+pub static BLOCKS: Sort = blocks_of("BLOCK READ and BLOCK WRITE", "blocks", blocks);
+
+/// Blocks of the most words, of one kind a sheet and at the same places, to be held against a record for each word.
+pub static LONG_BLOCKS: [Sort; 2] = [
+    blocks_of("BLOCK READ 16 and READ 4", "read", |number| long_blocks(BLOCK_READ, number)),
+    blocks_of("BLOCK WRITE 16 and WRITE 4", "write", |number| long_blocks(BLOCK_WRITE, number)),
+];
+
+/// A sort of version 1 sheets.
+const fn in_one(name: &'static str, word: &'static str, judged: bool, records: fn(u64) -> Vec<Record>) -> Sort {
+    Sort { name, word, judged, version: Version::One, records }
+}
+
+/// A sort of sheets of blocks, which are of version 2.
+const fn blocks_of(name: &'static str, word: &'static str, records: fn(u64) -> Vec<Record>) -> Sort {
+    Sort { name, word, judged: true, version: Version::Two, records }
+}
 
 /// Prefetch on, and filling from a place in ROM.
 fn opening(waitcnt: u32, place: u32) -> Vec<Record> {
@@ -217,6 +242,34 @@ fn copies(number: u64) -> Vec<Record> {
     }
     records.truncate(RECORDS);
     records
+}
+
+/// Blocks of one to 16 words.
+fn blocks(number: u64) -> Vec<Record> {
+    let mut rng = seeded(12, number);
+    let mut one = || {
+        let kind = rng.pick(&[BLOCK_READ, BLOCK_WRITE]);
+        let words = 1 + rng.below(MOST_WORDS as usize) as u32;
+        block(&mut rng, kind, words)
+    };
+    (0..RECORDS).map(|_| one()).collect()
+}
+
+/// As many blocks as have `RECORDS` words together.
+fn long_blocks(kind: u8, number: u64) -> Vec<Record> {
+    let mut rng = seeded(13, number);
+    (0..RECORDS / MOST_WORDS as usize).map(|_| block(&mut rng, kind, MOST_WORDS)).collect()
+}
+
+/// A record for each word of blocks.
+pub fn written_out(blocks: &[Record]) -> Vec<Record> {
+    blocks.iter().flat_map(accesses).collect()
+}
+
+/// READ 4 for the words of a BLOCK READ, WRITE 4 of 0 for those of a BLOCK WRITE.
+fn accesses(block: &Record) -> Vec<Record> {
+    let kind = if block.kind == BLOCK_READ { READ } else { WRITE };
+    block.words().map(|address| Record::new(kind, 4, address, 0)).collect()
 }
 
 // ---- sheets for the growth of a step ----

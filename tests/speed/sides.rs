@@ -1,5 +1,6 @@
 //! The sides whose times are compared, two at a time: the library and the Rust; a run of the library under a tariff and one
-//! without; the library's preview and its run; a run of the library with the grounds of its prices and one without.
+//! without; the library's preview and its run; a run of the library with the grounds of its prices and one without; the library
+//! on blocks and on a record for each of their words.
 
 use crate::bytes::*;
 use crate::memories::Memories;
@@ -8,7 +9,7 @@ use crate::sheets::{self, Sort};
 use crate::timing::timed;
 
 /// The greatest ratio of best times at which the library isn't slower than the Rust: two builds of the same source differ by as
-/// much, from the places of their code and data alone.
+/// much, from the places of their code and data alone. A word of a block may cost as much of a record of its own.
 const SAME: f64 = 1.05;
 
 /// The most that a run under a tariff may cost of one without; and on IDLE 1, whose steps are the cheapest, while a share costs
@@ -24,6 +25,9 @@ const GROUNDS_MOST: f64 = 1.5;
 
 /// Cents per million cycles.
 const RATE: u32 = 307;
+
+/// So many are the kinds of both versions, with 0, which is none.
+const KINDS: usize = 1 + BLOCK_WRITE as usize;
 
 /// The board that each run starts from.
 const FRESH: [u8; BOARD] = [0; BOARD];
@@ -60,9 +64,12 @@ impl Lent {
         }
     }
 
-    /// A side's run of a sheet from a fresh board: its time in ns a record, and what it gave. Only the run itself is timed.
+    /// A side's run of a sheet from a fresh board: its time in ns a record, or a word where the sheet has `RECORDS` words in
+    /// blocks, and what it gave. Only the run itself is timed.
     pub fn time(&mut self, sheet: &[u8], side: &mut dyn Side) -> Result<(f64, Given), String> {
-        self.sheet.copy_from_slice(sheet);
+        // its room is that of the longest sheet, so that it stays where it is
+        self.sheet.clear();
+        self.sheet.extend_from_slice(sheet);
         self.board.copy_from_slice(&FRESH);
         self.answers.fill(NO_ANSWER);
         self.second.fill(NO_ANSWER);
@@ -168,18 +175,38 @@ impl Side for Grounded {
         Some(self.0.parts())
     }
 
-    /// A step has a ground exactly where it is an access or an instruction, and no more than two.
+    /// A step has a ground or two for each of its accesses, an instruction counting as one, and 0 behind them.
     fn check(&self, lent: &Lent) -> Result<(), String> {
-        let grounded: [bool; 1 + LATCH as usize] = std::array::from_fn(|kind| matches!(kind as u8, READ | WRITE | INSTRUCTION));
-        let kinds = lent.sheet[HEADER..].chunks_exact(RECORD).map(|record| usize::from(record[0]));
-        let good = |(kind, grounds): (usize, &[u8])| {
-            let known = grounds[0] <= 9 && grounds[1] <= 9 && grounds[2..].iter().all(|&byte| byte == 0);
-            known && (grounds[0] != 0) == grounded[kind]
+        let priced: [Priced; KINDS] = std::array::from_fn(|kind| priced(kind as u8));
+        let accesses = lent.sheet[HEADER..].chunks_exact(RECORD).map(|record| {
+            let Priced { always, by_value } = priced[usize::from(record[0])];
+            always + (u32_at(record, 8) & by_value) as usize
+        });
+        let good = |(accesses, grounds): (usize, &[u8])| {
+            let count = grounds.iter().filter(|&&byte| byte != 0).count();
+            let known = grounds.iter().enumerate().all(|(i, &byte)| byte <= 9 && (byte != 0) == (i < count));
+            known && (accesses..=2 * accesses).contains(&count)
         };
-        if kinds.zip(lent.second.chunks_exact(GROUNDS)).all(good) {
+        if accesses.zip(lent.second.chunks_exact(GROUNDS)).all(good) {
             return Ok(());
         }
         Err("a step has grounds that it can't have".to_string())
+    }
+}
+
+/// How many accesses of a step of a kind have grounds: so many always, and as many as these bits of the record's value say. It is
+/// looked up without a jump on the kind, for the reason that `previewed` gives.
+#[derive(Clone, Copy)]
+struct Priced {
+    always: usize,
+    by_value: u32,
+}
+
+fn priced(kind: u8) -> Priced {
+    match kind {
+        READ | WRITE | INSTRUCTION => Priced { always: 1, by_value: 0 },
+        BLOCK_READ | BLOCK_WRITE => Priced { always: 0, by_value: u32::MAX },
+        _ => Priced { always: 0, by_value: 0 },
     }
 }
 
@@ -188,7 +215,7 @@ impl Side for Grounded {
 /// forget their branches.
 fn previewed(sheet: &[u8], run: Given) -> Given {
     let Given { report, mut answers, .. } = run;
-    let told: [[u8; ANSWER]; 1 + LATCH as usize] = std::array::from_fn(|kind| told(kind as u8));
+    let told: [[u8; ANSWER]; KINDS] = std::array::from_fn(|kind| told(kind as u8));
     let kinds = sheet[HEADER..].chunks_exact(RECORD).map(|record| usize::from(record[0]));
     for (kind, answer) in kinds.zip(answers.chunks_exact_mut(ANSWER)) {
         answer.iter_mut().zip(told[kind]).for_each(|(byte, told)| *byte &= told);
@@ -196,15 +223,33 @@ fn previewed(sheet: &[u8], run: Given) -> Given {
     Given { report, board: FRESH.to_vec(), answers }
 }
 
-/// The bits of an answer that a preview tells: the value of READ and FETCH is 0, and so are the hits of WRITE.
+/// The bits of an answer that a preview tells: the value of READ, FETCH and BLOCK READ is 0, and so are the hits of WRITE and
+/// BLOCK WRITE.
 fn told(kind: u8) -> [u8; ANSWER] {
     let mut bits = [0xFF; ANSWER];
     match kind {
-        READ | FETCH => bits[..4].fill(0),
-        WRITE => bits[8] = 0,
+        READ | FETCH | BLOCK_READ => bits[..4].fill(0),
+        WRITE | BLOCK_WRITE => bits[8] = 0,
         _ => {}
     }
     bits
+}
+
+/// What blocks give where the records of their words gave this (document 02, W-207): one answer a block, with the cycles and the
+/// bytes that landed of all its words, and else what its last word left. What lies behind the answers stays as it was.
+fn joined(sheet: &[u8], apart: Given) -> Given {
+    let Given { report, board, answers } = apart;
+    let blocks = sheet[HEADER..].chunks_exact(RECORD);
+    let index = blocks.len() as u32;
+    let mut words = answers.chunks_exact(ANSWER).map(Answer::of);
+    let of_block = |block: &[u8]| words.by_ref().take(u32_at(block, 8) as usize).reduce(in_one_answer);
+    let mut joined: Vec<u8> = blocks.filter_map(of_block).flat_map(|answer| answer.bytes()).collect();
+    joined.resize(answers.len(), NO_ANSWER);
+    Given { report: Report { index, ..report }, board, answers: joined }
+}
+
+fn in_one_answer(before: Answer, next: Answer) -> Answer {
+    Answer { cycles: before.cycles + next.cycles, hits: before.hits + next.hits, ..next }
 }
 
 // ---- two sides ----
@@ -214,6 +259,10 @@ pub struct Match {
     pub names: [&'static str; 2],
     /// The second, in a sentence.
     pub other: &'static str,
+    /// What the times are told for: a record, or a word of a block.
+    pub unit: &'static str,
+    /// The records of the second's sheet by those of the first's, where it isn't the same.
+    pub apart: Option<fn(&[Record]) -> Vec<Record>>,
     /// The greatest ratio of best times on a sort of sheets.
     pub most: fn(&Sort) -> f64,
     /// What the first must give where the second gave this on a sheet.
@@ -227,6 +276,8 @@ pub struct Match {
 pub static LIBRARY_AND_RUST: Match = Match {
     names: ["library", "Rust"],
     other: "the Rust",
+    unit: "record",
+    apart: None,
     most: |_| SAME,
     first_gives: |_, given| given,
     second_len: 0,
@@ -236,6 +287,8 @@ pub static LIBRARY_AND_RUST: Match = Match {
 pub static TARIFF_AND_RUN: Match = Match {
     names: ["tariff", "run"],
     other: "bts_run",
+    unit: "record",
+    apart: None,
     most: |sort| if sort.word == "idle" { TARIFF_MOST_IDLE } else { TARIFF_MOST },
     first_gives: |_, given| given,
     second_len: SHARE * sheets::RECORDS,
@@ -248,6 +301,8 @@ pub static TARIFF_AND_RUN: Match = Match {
 pub static PREVIEW_AND_RUN: Match = Match {
     names: ["preview", "run"],
     other: "bts_run",
+    unit: "record",
+    apart: None,
     most: |_| PREVIEW_MOST,
     first_gives: previewed,
     second_len: 0,
@@ -257,8 +312,22 @@ pub static PREVIEW_AND_RUN: Match = Match {
 pub static GROUNDS_AND_RUN: Match = Match {
     names: ["grounds", "run"],
     other: "bts_run",
+    unit: "record",
+    apart: None,
     most: |_| GROUNDS_MOST,
     first_gives: |_, given| given,
     second_len: GROUNDS * sheets::RECORDS,
     sides: |memories| [Box::new(Grounded(memories.clone())), Box::new(memories.clone())],
+};
+
+/// The library twice. A block's words are the same accesses as the records, and there are as many of both.
+pub static BLOCKS_AND_RECORDS: Match = Match {
+    names: ["blocks", "records"],
+    other: "a record for each word",
+    unit: "word",
+    apart: Some(sheets::written_out),
+    most: |_| SAME,
+    first_gives: joined,
+    second_len: 0,
+    sides: |memories| [Box::new(memories.clone()), Box::new(memories.clone())],
 };

@@ -5,7 +5,7 @@ use mathlib.Core.List.{List, [], _∷_, _++_}
 use Prim.Native.Nat.{ℕ}
 use lib.ListN.{replicate}
 use Rattle.model.specs.Wait.{accessSize}
-use Rattle.model.specs.Sheet.{recordAt, recordsFrom, isaState, stepOf, sizeFits, kindFault, fieldFault, firstOf}
+use Rattle.model.specs.Sheet.{rulesOf, recordAt, recordsFrom, isaState, stepOf, sizeFits, kindFault, fieldFault, firstOf}
 use Rattle.model.specs.BoardBytes.{boardLength, clockOf, contentsOf, boardBytes, freshBoard, soundBeat}
 use Rattle.model.specs.BoardBytes.{soundRow, isZero, soundPrefetch, soundPrevious, soundBytes, sound}
 use Rattle.model.specs.Outcome.{Lent, Outcome, sizesFit, verdict, ran, outcome}
@@ -59,7 +59,7 @@ pub record Example (o : Outcome) : Type 0 where
   pub store : o .store ≡ replicate 61444 0
 
 pub bench-example : Example (outcome example)
-unfolding machine recordAt recordsFrom accessSize isaState stepOf sizeFits kindFault fieldFault firstOf
+unfolding machine rulesOf recordAt recordsFrom accessSize isaState stepOf sizeFits kindFault fieldFault firstOf
     clockOf contentsOf boardBytes soundBeat soundRow isZero soundPrefetch soundPrevious soundBytes sound
     sizesFit verdict ran outcome
 bench-example = record { number = refl; index = refl; total = refl; answers = refl; store = refl }
@@ -70,7 +70,7 @@ explainedExample = record { run = example; grounds = replicate 160 0 }
 
 pub bench-grounds : (explain explainedExample) .grounds
     ≡ beatBytes [] ++ (beatBytes [] ++ (beatBytes [] ++ (beatBytes (BufferHit ∷ []) ++ beatBytes (EwramBus ∷ []))))
-unfolding machine recordAt recordsFrom accessSize isaState stepOf sizeFits kindFault fieldFault firstOf
+unfolding machine rulesOf recordAt recordsFrom accessSize isaState stepOf sizeFits kindFault fieldFault firstOf
     clockOf contentsOf boardBytes soundBeat soundRow isZero soundPrefetch soundPrevious soundBytes sound
     sizesFit explain groundsVerdict runGrounds groundsAfter halfGround fetchGrounds firstGround dataGrounds
 bench-grounds = refl

@@ -10,7 +10,8 @@ use lib.ListN.{take, drop}
 use lib.Dec.{leb}
 use borrow.Author.Tests.{leb-true, not-false}
 use Rattle.model.specs.Step.{Media, State, changed, answer}
-use Rattle.model.specs.Sheet.{recordAt, recordCount, stepOf, stepsOf, sizeFits, kindFault, fieldFault, faulty}
+use Rattle.model.specs.Sheet.{recordAt, recordCount, stepOf, stepsOf, lastKind, sizeFits, kindFault}
+use Rattle.model.specs.Sheet.{fieldFault, faulty}
 use Rattle.model.specs.BoardBytes.{clockOf}
 use Rattle.model.specs.Outcome.{LentBytes, mediaOf, firstState, verdict, refusalNumber, refusalIndex}
 use Rattle.model.specs.Outcome.{outcomeBy}
@@ -55,22 +56,23 @@ refused-explained e q r v n k z = same ∙ sym (ap (explainBy e) v)
 some-kind : (r : SheetRecord) → faulty r ≡ false → 1 ≤ r .kind
 unfolding kindFault
 some-kind r f =
-    let k : leb 1 (r .kind) && leb (r .kind) 9 && sizeFits (r .kind) (r .size) ≡ true =
+    let k : leb 1 (r .kind) && leb (r .kind) (lastKind (r .version)) && sizeFits (r .kind) (r .size) ≡ true =
     not-false _ (or-false-left (kindFault r) (fieldFault r) f) in
     leb-true 1 (r .kind) (search parts)
 
--- no step but WRITE stores
-stores-nothing : (m : Media) (s : State) (r : SheetRecord) → r .kind ≢ 2 → (changed m s (stepOf r)) .puts ≡ []
+-- no step but WRITE and BLOCK WRITE stores
+stores-nothing : (m : Media) (s : State) (r : SheetRecord) → r .kind ≢ 2 → r .kind ≢ 11 → (changed m s (stepOf r)) .puts ≡ []
 stores-nothing m s r =
-    by-kind (λ (k : ℕ) (x : Step). k ≢ 2 → (changed m s x) .puts ≡ []) r (λ h. refl) (λ h. absurd (h refl)) (λ h. refl)
-    (λ h. refl) (λ h. refl) (λ h. refl) (λ h. refl) (λ h. refl) (λ o h. refl)
+    by-kind (λ (k : ℕ) (x : Step). k ≢ 2 → k ≢ 11 → (changed m s x) .puts ≡ []) r (λ h g. refl) (λ h g. absurd (h refl))
+    (λ h g. refl) (λ h g. refl) (λ h g. refl) (λ h g. refl) (λ h g. refl) (λ h g. refl) (λ h g. refl) (λ h g. absurd (g refl))
+    (λ o h g. refl)
 
 -- an answer, in the bytes, shows what its step does to the clock
 shows-answer : (m : Media) (s : State) (r : SheetRecord) (b : List ℕ) (k : ℕ) → ReadBack b k (answer m s (stepOf r))
     → Shows b k (s .board .clock) r
 shows-answer m s r b k x =
     record {
-      hits = λ h. x .hits ∙ other-hits m s (stepOf r) (stores-nothing m s r h);
+      hits = λ h g. x .hits ∙ other-hits m s (stepOf r) (stores-nothing m s r h g);
       count = x .count;
       force = x .force;
     }

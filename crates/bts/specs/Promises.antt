@@ -2,12 +2,14 @@
 -- `o` that `o ≡ outcome i`; that of `bts_run_tariff` says of one that was lent `t` and left `b` that `b ≡ bill t`; that of
 -- `bts_preview` says of one that was lent `q` and left `p` that `p ≡ preview q`. All that is here follows from these equations:
 -- demands 1 and 3, what a WRITE tells, what is charged, and that a preview is the run.
-use mathlib.Core.Path.{_≡_, refl}
+use mathlib.Core.Path.{_≡_, refl, _∙_}
 use mathlib.Core.Logic.{_≢_}
 use mathlib.Core.Bool.{true}
 use Prim.Native.Nat.{ℕ, _*_, _≤_, _<_}
 use Rattle.model.specs.Base.{Exactly}
-use Rattle.model.specs.Sheet.{maxRecords, recordAt, recordCount, recordsOf, stepOf}
+use Rattle.model.specs.Sheet.{maxRecords, versionOf, recordAt, recordCount, recordsOf, stepOf}
+use Rattle.model.specs.VersionOne.{outcome₁}
+use Rattle.model.specs.Laws.VersionOne.{version-one}
 use Rattle.model.specs.BoardBytes.{sound}
 use Rattle.model.specs.Outcome.{Lent, LentBytes, Outcome, verdict, outcomeBy, outcome}
 use Rattle.model.specs.Alike.{AlikeSheets, AlikeBoards, Limits, Accounts, Demand3}
@@ -18,7 +20,7 @@ use Rattle.model.specs.Laws.Refusal as refusal
 use Rattle.model.specs.Laws.Refusal.{Table, Index, Acceptable, Untouched}
 use Rattle.model.specs.Laws.Fits.{board-sound, total-fits}
 use Rattle.model.specs.Laws.Demand3 as demand
-use Rattle.model.specs.Laws.Told.{Told, told}
+use Rattle.model.specs.Laws.Told.{Told, told, BlockTold, block-told}
 use Rattle.model.specs.Laws.Billed as billed
 use Rattle.model.specs.Laws.Billed.{TariffTable, TariffAcceptable, RateAlone, SharesRoom, Fair, Unbilled}
 use Rattle.model.specs.Laws.Previewed as previewed
@@ -29,7 +31,7 @@ use Rattle.examine.specs.Verdicts.{ready, index-small, tariff-index-small, grou
 use Rattle.bts.specs.Reported.{run-accepts, bare-ready}
 use Rattle.bts.specs.Explained.{explained-accepts}
 use Rattle.model.specs.declared.AccessSize.{AccessSize}
-use Rattle.model.specs.declared.Step.the-variants.{Write}
+use Rattle.model.specs.declared.Step.the-variants.{Write, BlockWrite}
 use Rattle.model.specs.declared.Verdict.{Verdict}
 use Rattle.model.specs.declared.Verdict.the-variants.{Accepted, Refused}
 
@@ -82,6 +84,16 @@ module _ (i : Lent) (o : Outcome) (call : o ≡ outcome i) where
   pub landed-told : o .number ≡ 0 → (k : ℕ) → k < recordCount (i .sheet)
       → (z : AccessSize) (a v : ℕ) → stepOf (recordAt (i .sheet) k) ≡ Write z a v → Told i o k z a v
   landed-told ok k h z a v e = told i o call ok k h z a v e
+
+  -- ---- W-207: that of a BLOCK WRITE's is the number that its words' stores wrote
+
+  pub block-landed-told : o .number ≡ 0 → (k : ℕ) → k < recordCount (i .sheet)
+      → (a n : ℕ) → stepOf (recordAt (i .sheet) k) ≡ BlockWrite a n → BlockTold i o k a n
+  block-landed-told ok k h a n e = block-told i o call ok k h a n e
+
+  -- and a version 1 sheet means what it did before there was a version 2
+  pub as-before : versionOf (i .sheet) ≡ 1 → o ≡ outcome₁ i
+  as-before one = call ∙ version-one i one
 
 -- ---- demand 3: any two accepted calls with alike sheets and boards, whatever memories they are lent
 

@@ -6,6 +6,7 @@ use model::Contents;
 use model::Lengths;
 use records::answer::put_answer;
 use records::sheet::record_at;
+use records::sheet::rules_of;
 use records::sheet::step_of;
 use step::take_step;
 use waits::waitcnt::WaitCnt;
@@ -52,13 +53,14 @@ pub fn run_core(
         (now (sheet .entry)) n (now (answers .entry))
         r (now (halves .exit)) (now (store .exit)) (now (answers .exit)) ⌝ }
 {
+    let version = rules_of(sheet);
     let mut waits = waits::rom_waits(WaitCnt { raw: clock.waitcnt });
     let mut current = clock;
     let mut held = contents;
     let mut total: u64 = 0;
     let mut k: usize = 0;
     while k < n {
-        let step = step_of(record_at(sheet, k));
+        let step = step_of(record_at(sheet, version, k));
         let taken = take_step(
             current,
             held,

@@ -1,12 +1,13 @@
 // What is examined before a run or a preview: the refusals, in the order of document 01's table, and the tariff's. Nothing is
 // written here.
 use model::ANSWER_LENGTH;
+use model::FIRST_VERSION;
 use model::GROUNDS_LENGTH;
+use model::LATEST_VERSION;
 use model::Lengths;
 use model::MAX_RATE;
 use model::Refusal;
 use model::SHARE_LENGTH;
-use model::VERSION;
 use model::Verdict;
 use records::sheet;
 ghost use mathlib.Core.Path.{_≡_};
@@ -57,7 +58,8 @@ pub fn examine_sheet(sheet: &[u8]) -> Verdict
     if !sheet::is_marked(sheet) {
         return Verdict::Refused(Refusal::BadMark);
     }
-    if sheet::version_of(sheet) != VERSION {
+    let version = sheet::version_of(sheet);
+    if (version < FIRST_VERSION) | (version > LATEST_VERSION) {
         return Verdict::Refused(Refusal::BadVersion);
     }
     if !sheet::is_shaped(sheet) {

@@ -3,6 +3,7 @@
 use mathlib.Core.Path.{_≡_, refl, sym, ap, ap₂, _∙_}
 use mathlib.Core.Logic.{_≢_}
 use mathlib.Core.Bool.{Bool, true, false, _&&_}
+use mathlib.Core.List.{_++_}
 use Prim.Native.Nat.{ℕ, zero, suc, _+_, _-_, _*_, _%_, _^_, _≤_, _<_}
 use native.Mathlib.Omega.{arith}
 use lib.Dec.{eqb, leb}
@@ -13,17 +14,18 @@ use Rattle.model.specs.Wait.{sizeBytes, accessSize, aligned, window, isIn, inWi
 use Rattle.model.specs.Prefetch.{emptied, setEnabled, restartIn, restart, ready, tick1, ticks, arrives}
 use Rattle.model.specs.Prefetch.{occupied, hit, taken, fetched}
 use Rattle.model.specs.Region.{decode}
-use Rattle.model.specs.Price.{previous, kindAfter, wide, Bus, OnEwram, OnVideo, OnRom, OnSram, OnFast, busOf}
+use Rattle.model.specs.Price.{Previous, previous, accessOf, blockPrevious, kindAfter}
+use Rattle.model.specs.Price.{wide, Bus, OnEwram, OnVideo, OnRom, OnSram, OnFast, busOf}
 use Rattle.model.specs.Timing.{codeSize}
 use Rattle.model.specs.Step.{waitsOf, setWaitcnt, priced, romFetched, fetchedIn, codeFetched, codeClock, timed, clockAfter}
-use Rattle.model.specs.Sheet.{isaState, stepOf}
+use Rattle.model.specs.Sheet.{isaState, wordsOf, stepOf}
 use Rattle.model.specs.Grounds.{halfGround, kindGround, firstGround, fetchGroundsIn, fetchGrounds, dataGroundsOn, dataGrounds}
-use Rattle.model.specs.Grounds.{grounds, beatBytes}
+use Rattle.model.specs.Grounds.{blockGrounds, grounds, beatBytes}
 use Rattle.model.specs.Laws.Choice.{choose, choose₂, by-test, if-true, if-false, tests, parts, eqb-ne}
 use Rattle.model.specs.Laws.Window.{InRom, true-inWindow, window-in}
 use Rattle.model.specs.Laws.Sizes.{aligned-rom}
 use Rattle.model.specs.Laws.Kinds.{Other, by-kind}
-use Rattle.model.specs.Laws.Previous.{SoundPrevious, there, rom-kind, some-size}
+use Rattle.model.specs.Laws.Previous.{SoundPrevious, access-sound, there, rom-kind, some-size}
 use Rattle.model.specs.Laws.Grounds.{busWindow, bus-window}
 use Rattle.model.specs.Laws.Rules.{hit-exactly}
 use Rattle.model.specs.Laws.Bounds.{SmallWaits, romWaits-small}
@@ -38,14 +40,17 @@ use Rattle.model.specs.declared.Ground.{Ground}
 use Rattle.model.specs.declared.Ground.the-variants.{BufferHit, Sequential, ByFlag, ByBlock, ByAddress}
 use Rattle.model.specs.declared.AccessKind.the-variants.{Nonseq, Seq}
 use Rattle.model.specs.declared.AccessSize.{AccessSize}
+use Rattle.model.specs.declared.AccessSize.the-variants.{Word}
 use Rattle.model.specs.declared.SheetRecord.{SheetRecord}
 use Rattle.model.specs.declared.Step.{Step}
 use Rattle.model.specs.declared.Step.the-variants.{Read, Write, Waitcnt, Idle, Fetch, Restart, Instruction, Pc, Latch}
+use Rattle.model.specs.declared.Step.the-variants.{BlockRead, BlockWrite}
 use Rattle.model.specs.declared.IsaState.{IsaState}
 use Rattle.model.specs.declared.IsaState.the-variants.{Arm, Thumb}
 use Rattle.grounds.specs.declared.Trail.{Trail}
 use Rattle.grounds.specs.declared.Before.{Before}
-use Rattle.grounds.specs.Trail.{nowhere, begins, frontHits, codeFront, groundAt, dataNext, beatsBy, passes, trailAfter}
+use Rattle.grounds.specs.Trail.{nowhere, begins, frontHits, codeFront, groundAt, dataFrom, dataNext, blockFrom, blockNext}
+use Rattle.grounds.specs.Trail.{beatsBy, passes, trailAfter}
 
 -- ---- the front of a buffer
 
@@ -212,51 +217,61 @@ fetch-same hits hits' forced isa a e = by (window a)
         (half-same hits hits' false (further 2 a) (e (further 2 a)))
     by Outside = refl
 
--- where an access goes on
-abbrev pub nextOf : Clock → ℕ
-nextOf c = if eqb (c .«prev_size») 0 then nowhere else further (c .«prev_size») (c .«prev_addr»)
+-- where an access goes on from the previous one
+abbrev pub nextOf : Previous → ℕ
+nextOf p = if eqb (p .size) 0 then nowhere else further (p .size) (p .addr)
 
 -- what a kind without a block comes to
 kind-by : (t : Bool) → kindGround (if t then Seq else Nonseq) ≡ (if t then Sequential else ByAddress)
 kind-by true = refl
 kind-by false = refl
 
-next-ground : (c : Clock) (n : ℕ) → SoundPrevious (previous c) → InRom n → firstGround (previous c) n ≡ groundAt (nextOf c) n
+next-ground : (p : Previous) (n : ℕ) → SoundPrevious p → InRom n → firstGround p n ≡ groundAt (nextOf p) n
 unfolding firstGround groundAt kindAfter classifyAccess
-next-ground c n s r =
+next-ground p n s r =
     choose₂ (λ (g h : Ground). g ≡ h) (forceNonseq n) (λ b. refl)
-    λ b. by-test (eqb (c .«prev_size») 0)
+    λ b. by-test (eqb (p .size) 0)
     (λ e.
     let past : eqb n nowhere ≡ false = ne-eqb n nowhere (λ q. omega (arith, q, r .below)) in
     simp (e, past))
     (λ e.
-    let size : sizeBytes (accessSize (c .«prev_size»)) ≡ c .«prev_size» = (there (previous c) s e) .sized in
+    let size : sizeBytes (accessSize (p .size)) ≡ p .size = (there p s e) .sized in
     let inside : inWindow n && forceNonseq n ≡ false = simp (true-inWindow n r, b) in
-    ap kindGround (sym (rom-kind (previous c) n s r e) ∙ if-false _ _ _ inside)
-    ∙ ap (λ (z : ℕ). kindGround (if eqb n (further z (c .«prev_addr»)) then Seq else Nonseq)) size
-    ∙ kind-by (eqb n (further (c .«prev_size») (c .«prev_addr»)))
+    ap kindGround (sym (rom-kind p n s r e) ∙ if-false _ _ _ inside)
+    ∙ ap (λ (z : ℕ). kindGround (if eqb n (further z (p .addr)) then Seq else Nonseq)) size
+    ∙ kind-by (eqb n (further (p .size) (p .addr)))
     ∙ sym (ap (λ (m : ℕ). if eqb n m then Sequential else ByAddress) (if-false _ _ _ e)))
 
-pub data-same : (c : Clock) (z : AccessSize) (a : ℕ) → SoundPrevious (previous c)
-    → dataGroundsOn z (groundAt (nextOf c) (aligned z a)) (busOf (decode a)) ≡ dataGrounds (previous c) z a
+pub data-same : (p : Previous) (z : AccessSize) (a : ℕ) → SoundPrevious p → dataFrom (nextOf p) z a ≡ dataGrounds p z a
 unfolding dataGrounds
-data-same c z a s = by (busOf (decode a)) refl
+data-same p z a s = by (busOf (decode a)) refl
   where
     by : (b : Bus) → busOf (decode a) ≡ b
-        → dataGroundsOn z (groundAt (nextOf c) (aligned z a)) b ≡ dataGroundsOn z (firstGround (previous c) (aligned z a)) b
+        → dataGroundsOn z (groundAt (nextOf p) (aligned z a)) b ≡ dataGroundsOn z (firstGround p (aligned z a)) b
     by OnEwram e = refl
     by OnVideo e = refl
     by (OnRom win) e =
         let rom : InRom a = window-in a win (bus-window a ∙ ap busWindow e) in
-        ap (λ (g : Ground). wide z g Sequential) (sym (next-ground c (aligned z a) s (aligned-rom z a rom)))
+        ap (λ (g : Ground). wide z g Sequential) (sym (next-ground p (aligned z a) s (aligned-rom z a rom)))
     by OnSram e = refl
     by OnFast e = refl
+
+-- those of a block, word by word: each is the access that the next one goes on from
+pub block-same : (p : Previous) (a n : ℕ) → SoundPrevious p → blockFrom (nextOf p) a n ≡ blockGrounds p a n
+block-same p a zero s = refl
+block-same p a (suc n) s =
+    ap₂ _++_ (data-same p Word a s) (block-same (accessOf Word a) (further 4 a) n (access-sound Word a))
+
+-- and behind it the last one is
+pub block-next : (p : Previous) (a n : ℕ) → blockNext (nextOf p) a n ≡ nextOf (blockPrevious p a n)
+block-next p a zero = refl
+block-next p a (suc n) = block-next (accessOf Word a) (further 4 a) n
 
 -- ---- the trail follows the clock
 
 pub record Follows (t : Trail) (c : Clock) : Type 0 where
   pub front : Fronts (t .front) (c .prefetch)
-  pub next : t .next ≡ nextOf c
+  pub next : t .next ≡ nextOf (previous c)
 
 pub begins-follows : (c : Clock) → SoundClock c → Follows (begins c) c
 unfolding begins
@@ -265,9 +280,8 @@ begins-follows c s = record { front = begins-front (c .prefetch) (s .buffer); ne
 -- what is told of a record, and the trail behind it, are what the clock says
 abbrev Right : Trail → Clock → Before → SheetRecord → ℕ → ℕ → Step → Type 0
 Right t c b r taken k x =
-    1 ≤ k → (k ≢ 2 → taken ≡ (timed c x) .hits)
-    → (beatsBy k (r .size) (r .address) t b ≡ beatBytes (grounds c x))
-    × Follows (trailAfter k (r .size) (r .address) t taken) (clockAfter c x)
+    1 ≤ k → (k ≢ 2 → k ≢ 11 → taken ≡ (timed c x) .hits)
+    → (beatsBy k r t b ≡ beatBytes (grounds c x)) × Follows (trailAfter k r t taken) (clockAfter c x)
 
 module _ (t : Trail) (c : Clock) (b : Before) (r : SheetRecord) (taken : ℕ) (s : SoundClock c) (f : Follows t c)
     (e : b ≡ record { count = c .prefetch .count; forced = c .«force_next_fetch_n» }) where
@@ -276,14 +290,12 @@ module _ (t : Trail) (c : Clock) (b : Before) (r : SheetRecord) (taken : ℕ) (s
 
   -- a data access
   data-told : (k : ℕ) → leb k 2 ≡ true → eqb k 7 ≡ false
-      → beatsBy k (r .size) (r .address) t b ≡ beatBytes (dataGrounds (previous c) (accessSize (r .size)) (r .address))
+      → beatsBy k r t b ≡ beatBytes (dataGrounds (previous c) (accessSize (r .size)) (r .address))
   unfolding beatsBy
   data-told k l n =
       if-false _ _ _ n ∙ if-true _ _ _ l
-      ∙ ap (λ (m : ℕ).
-      beatBytes (dataGroundsOn (accessSize (r .size)) (groundAt m (aligned (accessSize (r .size)) (r .address)))
-      (busOf (decode (r .address))))) (f .next)
-      ∙ ap beatBytes (data-same c (accessSize (r .size)) (r .address) (s .previous))
+      ∙ ap (λ (m : ℕ). beatBytes (dataFrom m (accessSize (r .size)) (r .address))) (f .next)
+      ∙ ap beatBytes (data-same (previous c) (accessSize (r .size)) (r .address) (s .previous))
 
   goes-on : (z : AccessSize) (a : ℕ) → dataNext z a ≡ (if eqb (sizeBytes z) 0 then nowhere else dataNext z a)
   goes-on z a = sym (if-false _ _ _ (some-size z))
@@ -304,7 +316,7 @@ module _ (t : Trail) (c : Clock) (b : Before) (r : SheetRecord) (taken : ℕ) (s
         record {
           front =
               still-front (t .front) (setEnabled on (c .prefetch)) taken (setEnabled-sound on (c .prefetch) (s .buffer))
-              (h (omega arith)) (switch-front (t .front) on (c .prefetch) (f .front));
+              (h (omega arith) (omega arith)) (switch-front (t .front) on (c .prefetch) (f .front));
           next = refl;
         },
       )
@@ -325,7 +337,7 @@ module _ (t : Trail) (c : Clock) (b : Before) (r : SheetRecord) (taken : ℕ) (s
   fetch-right k h = (
     refl,
     record {
-      front = fetch-front (t .front) (c .prefetch) (r .address) taken (s .buffer) (h (omega arith)) (f .front);
+      front = fetch-front (t .front) (c .prefetch) (r .address) taken (s .buffer) (h (omega arith) (omega arith)) (f .front);
       next = refl;
     },
   )
@@ -343,7 +355,7 @@ module _ (t : Trail) (c : Clock) (b : Before) (r : SheetRecord) (taken : ℕ) (s
       ∙ sym (fetch-same (hit (c .prefetch)) (frontHits (t .front) (c .prefetch .count)) (c .«force_next_fetch_n») isa a
       (front-hits (t .front) (c .prefetch) (s .buffer) (f .front)))
 
-  code-right : Shown 7 (Instruction (isaState (r .size)) (r .address) (r .value) (eqb (r .flag) 1))
+  code-right : Shown 7 (Instruction (r .version) (isaState (r .size)) (r .address) (r .value) (eqb (r .flag) 1))
   unfolding beatsBy trailAfter codeClock
   code-right k h =
       let isa = isaState (r .size) in (
@@ -351,8 +363,9 @@ module _ (t : Trail) (c : Clock) (b : Before) (r : SheetRecord) (taken : ℕ) (s
         record {
           front =
               ticks-front (waitsOf c) (romWaits-small (c .waitcnt)) (codeFront (t .front) isa (r .address))
-              ((priced c isa (r .address) (r .value) (eqb (r .flag) 1)) .«cart_idle») (codeFetched c isa (r .address))
-              (codeFetched-sound c isa (r .address) s) (code-fronts c (t .front) isa (r .address) (s .buffer) (f .front));
+              ((priced c (r .version) isa (r .address) (r .value) (eqb (r .flag) 1)) .«cart_idle»)
+              (codeFetched c isa (r .address)) (codeFetched-sound c isa (r .address) s)
+              (code-fronts c (t .front) isa (r .address) (s .buffer) (f .front));
           next = refl;
         },
       )
@@ -361,23 +374,48 @@ module _ (t : Trail) (c : Clock) (b : Before) (r : SheetRecord) (taken : ℕ) (s
   unfolding beatsBy trailAfter passes ticks
   pc-right k h = (
     refl,
-    record { front = still-front (t .front) (c .prefetch) taken (s .buffer) (h (omega arith)) (f .front); next = f .next },
+    record {
+      front = still-front (t .front) (c .prefetch) taken (s .buffer) (h (omega arith) (omega arith)) (f .front);
+      next = f .next;
+    },
   )
+
+  -- a block, whether it reads or writes
+  abbrev low : ℕ
+  low = aligned Word (r .address)
+
+  abbrev many : ℕ
+  many = wordsOf (r .value)
+
+  block-told : beatBytes (blockFrom (t .next) low many) ≡ beatBytes (blockGrounds (previous c) low many)
+  block-told =
+      ap (λ (m : ℕ). beatBytes (blockFrom m low many)) (f .next)
+      ∙ ap beatBytes (block-same (previous c) low many (s .previous))
+
+  block-follows : blockNext (t .next) low many ≡ nextOf (blockPrevious (previous c) low many)
+  block-follows = ap (λ (m : ℕ). blockNext m low many) (f .next) ∙ block-next (previous c) low many
+
+  block-read-right : Shown 10 (BlockRead low many)
+  unfolding beatsBy trailAfter ticks
+  block-read-right k h = (block-told, record { front = f .front; next = block-follows })
+
+  block-write-right : Shown 11 (BlockWrite low many)
+  unfolding beatsBy trailAfter ticks
+  block-write-right k h = (block-told, record { front = f .front; next = block-follows })
 
   latch-right : Other (r .kind) → Shown (r .kind) (Latch (r .value))
   unfolding beatsBy trailAfter passes ticks
   latch-right o k h =
       let above : 6 < r .kind = omega (arith, tests, o .read, o .write, o .waitcnt, o .idle, o .fetch, o .restart) in
       let wide2 = lt-leb (r .kind) 2 (omega (arith, above)) in
-      let wide6 = lt-leb (r .kind) 6 above in (
-        simp (o .instruction, wide2),
-        simp (o .instruction, wide2, o .idle, o .restart, wide6)
-            (record {
-              front = still-front (t .front) (c .prefetch) taken (s .buffer) (h (eqb-ne (r .kind) 2 (o .write))) (f .front);
-              next = f .next;
-            }),
+      let wide6 = lt-leb (r .kind) 6 above in
+      let none = h (eqb-ne (r .kind) 2 (o .write)) (eqb-ne (r .kind) 11 (o .block-write)) in (
+        simp (o .instruction, wide2, o .block-read, o .block-write),
+        simp (o .instruction, wide2, o .block-read, o .block-write, o .idle, o .restart, wide6)
+            (record { front = still-front (t .front) (c .prefetch) taken (s .buffer) none (f .front); next = f .next }),
       )
 
   pub follows : Shown (r .kind) (stepOf r)
   follows =
-      by-kind Shown r read-right write-right waitcnt-right idle-right fetch-right restart-right code-right pc-right latch-right
+      by-kind Shown r read-right write-right waitcnt-right idle-right fetch-right restart-right code-right pc-right
+      block-read-right block-write-right latch-right

@@ -3,8 +3,8 @@
 -- Follows.antt.
 use mathlib.Core.Path.{_≡_}
 use mathlib.Core.Bool.{Bool, not, _&&_}
-use mathlib.Core.List.{List, [], _∷_}
-use Prim.Native.Nat.{ℕ, _+_, _-_, _*_, _/_, _%_, _^_, _≤_}
+use mathlib.Core.List.{List, [], _∷_, _++_}
+use Prim.Native.Nat.{ℕ, zero, suc, _+_, _-_, _*_, _/_, _%_, _^_, _≤_}
 use lib.ListN.{length, replicate}
 use lib.Dec.{eqb, ltb, leb}
 use Rattle.model.specs.Base.{if_then_else_, byteAt, further, lowered}
@@ -12,13 +12,14 @@ use Rattle.model.specs.Region.{page, decode}
 use Rattle.model.specs.Wait.{sizeBytes, accessSize, aligned, inWindow, forceNonseq}
 use Rattle.model.specs.Timing.{codeSize}
 use Rattle.model.specs.Price.{busOf}
-use Rattle.model.specs.Sheet.{isaState}
+use Rattle.model.specs.Sheet.{isaState, wordsOf, isBlock}
 use Rattle.model.specs.BoardBytes.{answerLength}
 use Rattle.model.specs.Grounds.{fetchGrounds, dataGroundsOn, beatBytes}
 use Rattle.model.specs.declared.Ground.{Ground}
 use Rattle.model.specs.declared.Ground.the-variants.{Sequential, ByBlock, ByAddress}
 use Rattle.model.specs.declared.Clock.{Clock}
 use Rattle.model.specs.declared.AccessSize.{AccessSize}
+use Rattle.model.specs.declared.AccessSize.the-variants.{Word}
 use Rattle.model.specs.declared.IsaState.{IsaState}
 use Rattle.model.specs.declared.SheetRecord.{SheetRecord}
 use Rattle.grounds.specs.declared.Beats.{Beats}
@@ -30,6 +31,10 @@ use Rattle.grounds.specs.declared.Before.{Before}
 -- the 32 bytes of a step with at most two beats
 abbrev pub beatsOf : Beats → List ℕ
 beatsOf b = b .first ∷ b .second ∷ replicate 30 0
+
+-- how many they are, where there is one
+abbrev pub beatCount : Beats → ℕ
+beatCount b = if eqb (b .second) 0 then 1 else 2
 
 -- ---- the trail
 
@@ -74,8 +79,26 @@ codeFront front isa a = if inWindow a then lowered 2 (further (sizeBytes (codeSi
 unfoldable pub groundAt : ℕ → ℕ → Ground
 groundAt next n = if forceNonseq n then ByBlock else if eqb n next then Sequential else ByAddress
 
+-- the grounds of an access, and where the next one goes on
+abbrev pub dataFrom : ℕ → AccessSize → ℕ → List Ground
+dataFrom next z a = dataGroundsOn z (groundAt next (aligned z a)) (busOf (decode a))
+
 abbrev pub dataNext : AccessSize → ℕ → ℕ
 dataNext z a = further (sizeBytes z) (aligned z a)
+
+-- of the words of a block, each behind the one before it
+abbrev pub blockFrom : ℕ → ℕ → ℕ → List Ground
+blockFrom next a zero = []
+blockFrom next a (suc n) = dataFrom next Word a ++ blockFrom (dataNext Word a) (further 4 a) n
+
+abbrev pub blockNext : ℕ → ℕ → ℕ → ℕ
+blockNext next a zero = next
+blockNext next a (suc n) = blockNext (dataNext Word a) (further 4 a) n
+
+-- what is told of a block, and where an access goes on behind it
+pub record TellsBlock (next a n : ℕ) (out : List ℕ) (behind : ℕ) : Type 0 where
+  pub told : out ≡ beatBytes (blockFrom next a n)
+  pub goes-on : behind ≡ blockNext next a n
 
 -- the digit of an address's page
 unfoldable pub pageDigit : ℕ → ℕ → ℕ
@@ -83,12 +106,13 @@ pageDigit digits a = if ltb (page a) 16 then digits / 2 ^ (4 * page a) % 16 else
 
 -- ---- a step
 
--- by its kind, size and address
-unfoldable pub beatsBy : ℕ → ℕ → ℕ → Trail → Before → List ℕ
-beatsBy kind size a t b =
-    if eqb kind 7 then beatBytes (fetchGrounds (frontHits (t .front) (b .count)) (b .forced) (isaState size) a)
-    else if leb kind 2 then
-    beatBytes (dataGroundsOn (accessSize size) (groundAt (t .next) (aligned (accessSize size) a)) (busOf (decode a)))
+-- a record's, by its kind
+unfoldable pub beatsBy : ℕ → SheetRecord → Trail → Before → List ℕ
+beatsBy kind r t b =
+    if eqb kind 7 then
+    beatBytes (fetchGrounds (frontHits (t .front) (b .count)) (b .forced) (isaState (r .size)) (r .address))
+    else if leb kind 2 then beatBytes (dataFrom (t .next) (accessSize (r .size)) (r .address))
+    else if isBlock kind then beatBytes (blockFrom (t .next) (aligned Word (r .address)) (wordsOf (r .value)))
     else beatBytes []
 
 -- behind a step that has no grounds, and whose hits byte is `taken`
@@ -96,14 +120,15 @@ unfoldable pub passes : ℕ → ℕ → Trail → ℕ → Trail
 passes kind a t taken =
     trail (if eqb kind 6 then lowered 2 a else further (2 * taken) (t .front)) (if leb kind 6 then nowhere else t .next)
 
-unfoldable pub trailAfter : ℕ → ℕ → ℕ → Trail → ℕ → Trail
-trailAfter kind size a t taken =
-    if eqb kind 7 then trail (codeFront (t .front) (isaState size) a) nowhere
-    else if leb kind 2 then trail (t .front) (dataNext (accessSize size) a)
+unfoldable pub trailAfter : ℕ → SheetRecord → Trail → ℕ → Trail
+trailAfter kind r t taken =
+    if eqb kind 7 then trail (codeFront (t .front) (isaState (r .size)) (r .address)) nowhere
+    else if leb kind 2 then trail (t .front) (dataNext (accessSize (r .size)) (r .address))
+    else if isBlock kind then trail (t .front) (blockNext (t .next) (aligned Word (r .address)) (wordsOf (r .value)))
     else if eqb kind 4 then t
-    else passes kind a t taken
+    else passes kind (r .address) t taken
 
 -- what is told of a step, and the trail behind it
 pub record Tells (t : Trail) (b : Before) (r : SheetRecord) (taken : ℕ) (out : List ℕ) (after : Trail) : Type 0 where
-  pub told : out ≡ beatsBy (r .kind) (r .size) (r .address) t b
-  pub followed : after ≡ trailAfter (r .kind) (r .size) (r .address) t taken
+  pub told : out ≡ beatsBy (r .kind) r t b
+  pub followed : after ≡ trailAfter (r .kind) r t taken

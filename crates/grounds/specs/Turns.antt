@@ -20,7 +20,7 @@ use Rattle.model.specs.Laws.Choice.{if-false}
 use Rattle.model.specs.Laws.Sound.{SoundClock, clockAfter-sound}
 use Rattle.model.specs.Laws.Codec.{blocks-length, blocks-snoc, put-next}
 use Rattle.model.specs.Laws.Times.{clockPast, clock-snoc, grounds-snoc}
-use Rattle.model.specs.Laws.Limits.{records-length, steps-snoc}
+use Rattle.model.specs.Laws.Limits.{records-length, steps-short, steps-snoc}
 use Rattle.model.specs.Laws.Explained.{all-widths, grounds-length}
 use Rattle.model.specs.declared.Clock.{Clock}
 use Rattle.model.specs.declared.SheetRecord.{SheetRecord}
@@ -36,10 +36,10 @@ use Rattle.grounds.specs.Follows.{Follows, begins-follows, follows}
 abbrev pub stepsTo : List ℕ → ℕ → List Step
 stepsTo sheet k = map stepOf (recordsFrom sheet 0 k)
 
--- the answer to step k, of record r, tells what the step does to the clock c: how many halfwords it takes, but for WRITE, whose
--- hits byte is another number; and the prefetch count and the force flag behind it
+-- the answer to step k, of record r, tells what the step does to the clock c: how many halfwords it takes, but for WRITE and
+-- BLOCK WRITE, whose hits byte is another number; and the prefetch count and the force flag behind it
 pub record Shows (answers : List ℕ) (k : ℕ) (c : Clock) (r : SheetRecord) : Type 0 where
-  pub hits : r .kind ≢ 2 → byteAt answers (answerStart k + 8) ≡ (timed c (stepOf r)) .hits
+  pub hits : r .kind ≢ 2 → r .kind ≢ 11 → byteAt answers (answerStart k + 8) ≡ (timed c (stepOf r)) .hits
   pub count : byteAt answers (answerStart k + 9) ≡ (clockAfter c (stepOf r)) .prefetch .count
   pub force : byteAt answers (answerStart k + 10) ≡ bit ((clockAfter c (stepOf r)) .«force_next_fetch_n»)
 
@@ -80,7 +80,8 @@ module _ {c : Clock} {n : ℕ} {sheet answers lent : List ℕ} (x : Explainable 
 
   done-size : (k : ℕ) → length (groundsBytes (groundsAfter c (stepsTo sheet k))) ≡ groundsLength * k
   done-size k =
-      blocks-length groundsLength beatBytes (groundsAfter c (stepsTo sheet k)) (all-widths c (stepsTo sheet k))
+      blocks-length groundsLength beatBytes (groundsAfter c (stepsTo sheet k))
+      (all-widths c (stepsTo sheet k) (steps-short sheet 0 k))
       ∙ ap (λ (j : ℕ). groundsLength * j)
       (grounds-length c (stepsTo sheet k) ∙ length-map (recordsFrom sheet 0 k) stepOf ∙ records-length sheet 0 k)
 
@@ -138,7 +139,7 @@ module _ {c : Clock} {n : ℕ} {sheet answers lent : List ℕ} (x : Explainable 
             ap₂ (λ (m : ℕ) (l : List ℕ). putMid (groundsLength * k) m l out) w (g .written)
             ∙ ap (putMid (groundsLength * k) groundsLength _)
             (s .told
-            ∙ ap₂ (λ (q : SheetRecord) (p : Before). beatsBy (q .kind) (q .size) (q .address) t p) er eb
+            ∙ ap₂ (λ (q : SheetRecord) (p : Before). beatsBy (q .kind) q t p) er eb
             ∙ right .0)
             ∙ put-next groundsLength k (groundsBytes (groundsAfter c (stepsTo sheet k))) lent (beatBytes (grounds d y))
             (done-size k)
@@ -148,7 +149,7 @@ module _ {c : Clock} {n : ℕ} {sheet answers lent : List ℕ} (x : Explainable 
         follows =
             rw (
               clock-further k,
-              s .followed ∙ ap (λ (q : SheetRecord). trailAfter (q .kind) (q .size) (q .address) t taken) er,
+              s .followed ∙ ap (λ (q : SheetRecord). trailAfter (q .kind) q t taken) er,
             )
             (right .1);
         sound = rw (clock-further k) (clockAfter-sound d y (g .sound));

@@ -1,25 +1,26 @@
 // Why a step costs what it does: the grounds of the steps of a run, told behind it from its sheet, the clock that it began with
-// and its answers. From document 02, W-206.
+// and its answers. From document 02, W-206 and W-207.
 //
 // A pass of its own, so that the run's loop is the same with grounds and without. What a ground needs of the clock is little: the
 // prefetch count and the force flag stand in the answers, and the rest is carried along, a `Trail`.
 use model::ANSWER_LENGTH;
+use model::AccessSize;
 use model::Clock;
 use model::GROUNDS_LENGTH;
 use model::Ground;
 use model::SheetRecord;
 use names::ground_byte;
 use records::sheet::record_at;
+use records::sheet::rules_of;
+use records::sheet::words_of;
 ghost use mathlib.Core.Path.{_≡_};
 ghost use mathlib.Core.Bool.{false};
-ghost use mathlib.Core.List.{map, _++_};
-ghost use Prim.Native.Nat.{ℕ, _*_};
+ghost use mathlib.Core.List.{[], map, _++_};
+ghost use Prim.Native.Nat.{ℕ, _*_, _≤_};
 ghost use lib.ListN.{length, drop};
 ghost use Rattle.model.specs.Base.{if_then_else_};
-ghost use Rattle.model.specs.Region.{decode};
-ghost use Rattle.model.specs.Sheet.{isaState, recordsFrom, stepOf};
-ghost use Rattle.model.specs.Wait.{accessSize, aligned as loweredTo};
-ghost use Rattle.model.specs.Price.{busOf};
+ghost use Rattle.model.specs.Sheet.{isaState, maxWords, recordsFrom, stepOf};
+ghost use Rattle.model.specs.Wait.{accessSize};
 ghost use Rattle.model.specs.Grounds as def;
 ghost use Rattle.grounds.specs.Trail as trails;
 ghost use Rattle.grounds.specs.Turns.{Explainable};
@@ -32,6 +33,13 @@ pub mod names;
 struct Beats {
     first: u8,
     second: u8,
+}
+
+// How many they are, where there is one: no ground has the byte 0.
+fn beat_count(beats: Beats) -> usize
+    ensures { λ r. ⌜ r ≡ trails.beatCount beats ⌝ }
+{
+    if beats.second == 0 { 1 } else { 2 }
 }
 
 // A byte that is left out where a beat is, chosen and not jumped to: sizes follow each other in no order.
@@ -193,8 +201,7 @@ fn digit(digits: u64, addr: u32) -> u8
 }
 
 fn data_beats(next: u64, size: u8, addr: u32) -> Beats
-    ensures { λ r. ⌜ trails.beatsOf r ≡ def.beatBytes (def.dataGroundsOn (accessSize size)
-        (trails.groundAt next (loweredTo (accessSize size) addr)) (busOf (decode addr))) ⌝ }
+    ensures { λ r. ⌜ trails.beatsOf r ≡ def.beatBytes (trails.dataFrom next (accessSize size) addr) ⌝ }
 {
     let low = waits::aligned(waits::access_size(size as u32), addr);
     let in_rom = ground_byte(first_ground(next, low));
@@ -229,6 +236,29 @@ fn put(out: &mut [u8], beats: Beats)
     le::put_pair(&mut out[8..16], 0, 0);
     le::put_pair(&mut out[16..24], 0, 0);
     le::put_pair(&mut out[24..32], 0, 0);
+}
+
+// Tells the grounds of a block's words (W-207), in order, into bytes that are 0, and where an access goes on behind the last. A
+// word has one beat or two, and 16 of them fill the 32 bytes at most. Both bytes are written and the place is moved by as many
+// beats as there are: the 0 for no second beat is written over by the next word, or stays.
+fn put_block(out: &mut [u8], next: u64, addr: u32, words: u32) -> u64
+    requires { ⌜ (now out ≡ def.beatBytes []) × (words ≤ maxWords) ⌝ }
+    ensures { λ r. ⌜ trails.TellsBlock next addr words (now (out .exit)) r ⌝ }
+{
+    let mut place: usize = 0;
+    let mut from = next;
+    let mut at = addr;
+    let mut left = words;
+    while left > 0 {
+        let beats = data_beats(from, 4, at);
+        out[place] = beats.first;
+        out[place + 1] = beats.second;
+        place += beat_count(beats);
+        from = data_next(4, at);
+        at = std::num::wrapping_add_u32(at, 4);
+        left -= 1;
+    }
+    from
 }
 
 // The trail behind a step that has no grounds. FETCH takes from the buffer what it hits, RESTART has it start anew, and like
@@ -273,6 +303,14 @@ fn tell(out: &mut [u8], trail: Trail, before: Before, r: SheetRecord, taken: u8)
     if r.kind == 4 {
         return trail;
     }
+    if (r.kind == 10) | (r.kind == 11) {
+        let low = waits::aligned(AccessSize::Word, r.address);
+        let next = put_block(out, trail.next, low, words_of(r.value));
+        return Trail {
+            front: trail.front,
+            next,
+        };
+    }
     passed(trail, r, taken)
 }
 
@@ -283,6 +321,7 @@ pub fn put_grounds(sheet: &[u8], n: usize, clock: Clock, answers: &[u8], grounds
         ≡ def.groundsBytes (def.groundsAfter clock (map stepOf (recordsFrom (now (sheet .entry)) 0 n)))
         ++ drop (def.groundsLength * n) (now (grounds .entry)) ⌝ }
 {
+    let version = rules_of(sheet);
     let mut trail = begun(clock);
     let mut k: usize = 0;
     while k < n {
@@ -292,7 +331,7 @@ pub fn put_grounds(sheet: &[u8], n: usize, clock: Clock, answers: &[u8], grounds
             &mut grounds[at..at + GROUNDS_LENGTH],
             trail,
             before,
-            record_at(sheet, k),
+            record_at(sheet, version, k),
             answers[ANSWER_LENGTH * k + 8],
         );
         trail = behind;

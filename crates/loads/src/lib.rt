@@ -93,8 +93,9 @@ fn read16(
     low + 0x100 * high
 }
 
-// `read32`: two halfword loads, each decoded by itself.
-fn read32(
+// `read32`: two halfword loads, each decoded by itself. A block (W-207) takes its last word by it, so that `read` has one caller,
+// into which the compiler puts it.
+pub fn read32(
     target: Target,
     addr: u32,
     pc: u32,

@@ -1,6 +1,6 @@
 -- What demand 3 says: two sheets and two boards that are alike, the answers that every accepted run gives, the limits of its
 -- total, and the columns that two such runs agree in. The claim is stated once, over outcomes.
--- From document 01, "Demand 3".
+-- From document 01, "Demand 3", and document 02, W-201 and W-207.
 use mathlib.Core.Path.{_≡_}
 use mathlib.Core.Logic.{_≢_}
 use mathlib.Core.Bool.{_||_}
@@ -10,7 +10,7 @@ use lib.ListN.{take, drop}
 use lib.Dec.{eqb}
 use Rattle.model.specs.Base.{if_then_else_, bit, sum, byteAt, number}
 use Rattle.model.specs.Step.{State, run, answer}
-use Rattle.model.specs.Sheet.{headerLength, recordAt, recordCount, recordsOf, stepOf, stepsOf}
+use Rattle.model.specs.Sheet.{headerLength, isBlock, recordAt, recordCount, recordsOf, stepOf, stepsOf}
 use Rattle.model.specs.BoardBytes.{boardLength, answerLength, answerBytes}
 use Rattle.model.specs.Outcome.{Lent, LentBytes, Outcome, mediaOf, firstState}
 use Rattle.model.specs.declared.Answer.{Answer}
@@ -41,9 +41,12 @@ AlikeBoards b c = (i : ℕ) → i < boardLength → ¬ ((20 ≤ i) × (i ≤ 35)
 abbrev pub instructionsIn : List SheetRecord → ℕ
 instructionsIn rs = sum (map (λ (r : SheetRecord). bit (eqb (r .kind) 7)) rs)
 
--- A: the READ and WRITE records
+-- A: the READ and WRITE records, and each word of a block (W-207)
+abbrev pub accessesOf : SheetRecord → ℕ
+accessesOf r = if isBlock (r .kind) then r .value else bit (eqb (r .kind) 1 || eqb (r .kind) 2)
+
 abbrev pub accessesIn : List SheetRecord → ℕ
-accessesIn rs = sum (map (λ (r : SheetRecord). bit (eqb (r .kind) 1 || eqb (r .kind) 2)) rs)
+accessesIn rs = sum (map accessesOf rs)
 
 -- D: the values of the IDLE records
 abbrev pub idleCyclesIn : List SheetRecord → ℕ
@@ -93,11 +96,12 @@ pub record Accounts (i : Lent) (o : Outcome) : Type 0 where
   pub limits : Limits (recordsOf (i .sheet)) (o .total)
 
 -- the bytes of an answer that are compared: 4 to 7 (cycles), 9 (prefetch count) and 10 (force flag) of every step, 8 (hits) of
--- every step but WRITE, whose hits are the bytes that landed (W-201)
+-- every step but WRITE (2) and BLOCK WRITE (11), whose hits are the bytes that landed (W-201, W-207)
 pub record Compared (r : SheetRecord) (at : ℕ) : Type 0 where
   pub from : 4 ≤ at
   pub to : at ≤ 10
   pub but-landed : at ≡ 8 → r .kind ≢ 2
+  pub but-block : at ≡ 8 → r .kind ≢ 11
 
 -- what two accepted runs have whose sheets and first boards are alike
 pub record Demand3 (i j : Lent) (o p : Outcome) : Type 0 where

@@ -1,12 +1,14 @@
 -- The opcodes that are taken to have internal cycles, and the prefetch disable bug.
 -- From the ARM7TDMI data sheet's instruction formats and GBATEK, "GBA GamePak Prefetch" (disable bug); src/bus/disable_bug.rs;
--- document 01, "The opcode tests stay as they are".
+-- document 01, "The opcode tests stay as they are", and document 02, W-207, which moves one of them in version 2.
 use mathlib.Core.Bool.{Bool, not, _&&_, _||_}
 use Prim.Native.Nat.{ℕ, _/_, _%_, _^_}
 use lib.Dec.{eqb}
 use Rattle.model.specs.Base.{if_then_else_}
 use Rattle.model.specs.declared.AccessKind.{AccessKind}
 use Rattle.model.specs.declared.AccessKind.the-variants.{Nonseq, Seq}
+use Rattle.model.specs.declared.Version.{Version}
+use Rattle.model.specs.declared.Version.the-variants.{One, Two}
 
 -- the `w` bits of an opcode from bit `k` on are `v`
 abbrev pub bitsAre : ℕ → ℕ → ℕ → ℕ → Bool
@@ -38,12 +40,18 @@ armShiftRs raw = bitsAre raw 4 1 1 && (bitsAre raw 7 1 0 && bitsAre raw 25 3 0)
 unfoldable pub armInternal : ℕ → Bool
 armInternal raw = armMul raw || armLdr raw || armLdm raw || armSwp raw || armShiftRs raw
 
--- ---- Thumb: LDR by immediate (01101), from PC (01001) and from SP (10011), LDMIA (11001), in bits 15-11.
--- Departures: POP is looked for in opcodes 0xBAxx and 0xBBxx, and is 0xBCxx and 0xBDxx in the data sheet; byte, halfword and
--- register-offset loads, multiplies and shifts by register are missed.
-unfoldable pub thumbInternal : ℕ → Bool
-thumbInternal raw =
-    bitsAre raw 11 5 13 || bitsAre raw 11 5 9 || bitsAre raw 11 5 19 || bitsAre raw 11 5 25 || bitsAre raw 9 7 93
+-- ---- Thumb. Departures: byte, halfword and register-offset loads, multiplies and shifts by register are missed.
+
+-- POP, in bits 15-9. The data sheet has it at 1011110: opcodes 0xBCxx and 0xBDxx. Version 2 looks for it there; departure:
+-- version 1 does at 1011101, opcodes 0xBAxx and 0xBBxx
+abbrev pub popOpcode : Version → ℕ
+popOpcode One = 93
+popOpcode Two = 94
+
+-- LDR by immediate (01101), from PC (01001) and from SP (10011), LDMIA (11001), in bits 15-11, and POP
+unfoldable pub thumbInternal : Version → ℕ → Bool
+thumbInternal v raw =
+    bitsAre raw 11 5 13 || bitsAre raw 11 5 9 || bitsAre raw 11 5 19 || bitsAre raw 11 5 25 || bitsAre raw 9 7 (popOpcode v)
 
 -- ---- with prefetch off, an opcode in ROM with internal cycles that leaves the pc makes the next fetch nonsequential.
 -- Departure: GBATEK has the bug on the opcode's own fetch.

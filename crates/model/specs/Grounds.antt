@@ -1,20 +1,21 @@
 -- Why a step costs what it does: the ground of each of its beats, what a run with grounds gives back, and what is claimed of it.
--- From document 02, W-206.
+-- From document 02, W-206, and W-207, by which a block has the grounds of its words.
 use mathlib.Core.Path.{_≡_}
 use mathlib.Core.Bool.{Bool, true, false, not, _&&_}
 use mathlib.Core.List.{List, [], _∷_, _++_, map}
 use Prim.Native.Nat.{ℕ, zero, suc, _+_, _-_, _*_, _≤_, _<_}
 use lib.ListN.{length, take, drop, replicate}
-use lib.Dec.{eqb}
+use lib.Dec.{eqb, ltb}
 use Rattle.model.specs.Base.{if_then_else_, bit, sum, further, byteAt, blocks, Exactly}
 use Rattle.model.specs.Region.{page, decode}
 use Rattle.model.specs.Waitcnt.{Waits, romWaits, sramWaits}
 use Rattle.model.specs.Wait.{aligned, window, forceNonseq, romHalfCycles}
 use Rattle.model.specs.Wait.{sramByteCycles, ewramCycles, videoRamCycles, fixedFastCycles}
 use Rattle.model.specs.Prefetch.{hit}
-use Rattle.model.specs.Price.{Previous, previous, kindAfter, wide, Bus, OnEwram, OnVideo, OnRom, OnSram, OnFast, busOf}
+use Rattle.model.specs.Price.{Previous, previous, accessOf, kindAfter, wide}
+use Rattle.model.specs.Price.{Bus, OnEwram, OnVideo, OnRom, OnSram, OnFast, busOf}
 use Rattle.model.specs.Timing.{internal, codeSize}
-use Rattle.model.specs.Step.{clockAfter}
+use Rattle.model.specs.Step.{clockAfter, turnsIn}
 use Rattle.model.specs.Sheet.{recordAt, recordCount, stepOf, stepsOf}
 use Rattle.model.specs.BoardBytes.{clockOf}
 use Rattle.model.specs.Outcome.{Lent, Outcome, Row, firstRow, secondRows, outcomeBy, outcome}
@@ -36,6 +37,7 @@ use Rattle.model.specs.declared.Verdict.{Verdict}
 use Rattle.model.specs.declared.Verdict.the-variants.{Accepted, Refused}
 use Rattle.model.specs.declared.Step.{Step}
 use Rattle.model.specs.declared.Step.the-variants.{Read, Write, Waitcnt, Idle, Fetch, Restart, Instruction, Pc, Latch}
+use Rattle.model.specs.declared.Step.the-variants.{BlockRead, BlockWrite}
 
 -- ---- the nine grounds
 
@@ -133,6 +135,11 @@ dataGroundsOn z first OnFast = Fast ∷ []
 unfoldable pub dataGrounds : Previous → AccessSize → ℕ → List Ground
 dataGrounds p z a = dataGroundsOn z (firstGround p (aligned z a)) (busOf (decode a))
 
+-- the words of a block, each after the one before it, in order
+abbrev pub blockGrounds : Previous → ℕ → ℕ → List Ground
+blockGrounds p a zero = []
+blockGrounds p a (suc n) = dataGrounds p Word a ++ blockGrounds (accessOf Word a) (further 4 a) n
+
 -- ---- the grounds of a step, by the clock before it
 
 -- by what of a clock they depend on: where the buffer hits, the force flag and the previous access. FETCH has none
@@ -143,9 +150,11 @@ groundsBy hits forced p (Waitcnt v) = []
 groundsBy hits forced p (Idle n) = []
 groundsBy hits forced p (Fetch a) = []
 groundsBy hits forced p (Restart a) = []
-groundsBy hits forced p (Instruction isa a op jump) = fetchGrounds hits forced isa a
+groundsBy hits forced p (Instruction v isa a op jump) = fetchGrounds hits forced isa a
 groundsBy hits forced p (Pc a) = []
 groundsBy hits forced p (Latch v) = []
+groundsBy hits forced p (BlockRead a n) = blockGrounds p a n
+groundsBy hits forced p (BlockWrite a n) = blockGrounds p a n
 
 abbrev pub grounds : Clock → Step → List Ground
 grounds c x = groundsBy (hit (c .prefetch)) (c .«force_next_fetch_n») (previous c) x
@@ -157,17 +166,29 @@ groundsAfter c (x ∷ xs) = grounds c x ∷ groundsAfter (clockAfter c x) xs
 
 -- ---- what they come to
 
--- the cycles of a step's ground: a beat of a data access in EWRAM is a halfword, a fetch from there is one beat
-abbrev pub worth : Clock → Step → Ground → ℕ
-worth c (Read z a) g = groundCycles (c .waitcnt) (window a) Half g
-worth c (Write z a v) g = groundCycles (c .waitcnt) (window a) Half g
-worth c (Waitcnt v) g = 0
-worth c (Idle n) g = 0
-worth c (Fetch a) g = 0
-worth c (Restart a) g = 0
-worth c (Instruction isa a op jump) g = groundCycles (c .waitcnt) (window a) (codeSize isa) g
-worth c (Pc a) g = 0
-worth c (Latch v) g = 0
+-- the cycles of each ground of a data access: a beat in EWRAM is a halfword
+abbrev pub dataWorths : ℕ → Previous → AccessSize → ℕ → List ℕ
+dataWorths w p z a = map (groundCycles w (window a) Half) (dataGrounds p z a)
+
+-- of the words of a block, each by its own window
+abbrev pub blockWorths : ℕ → Previous → ℕ → ℕ → List ℕ
+blockWorths w p a zero = []
+blockWorths w p a (suc n) = dataWorths w p Word a ++ blockWorths w (accessOf Word a) (further 4 a) n
+
+-- of a step, one a ground; a fetch from EWRAM is one beat
+abbrev pub worths : Clock → Step → List ℕ
+worths c (Read z a) = dataWorths (c .waitcnt) (previous c) z a
+worths c (Write z a v) = dataWorths (c .waitcnt) (previous c) z a
+worths c (Waitcnt v) = []
+worths c (Idle n) = []
+worths c (Fetch a) = []
+worths c (Restart a) = []
+worths c (Instruction v isa a op jump) =
+    map (groundCycles (c .waitcnt) (window a) (codeSize isa)) (fetchGrounds (hit (c .prefetch)) (c .«force_next_fetch_n») isa a)
+worths c (Pc a) = []
+worths c (Latch v) = []
+worths c (BlockRead a n) = blockWorths (c .waitcnt) (previous c) a n
+worths c (BlockWrite a n) = blockWorths (c .waitcnt) (previous c) a n
 
 -- the internal cycle, which no ground has
 abbrev pub internalCycle : Step → ℕ
@@ -177,9 +198,11 @@ internalCycle (Waitcnt v) = 0
 internalCycle (Idle n) = 0
 internalCycle (Fetch a) = 0
 internalCycle (Restart a) = 0
-internalCycle (Instruction isa a op jump) = bit (internal isa op)
+internalCycle (Instruction v isa a op jump) = bit (internal v isa op)
 internalCycle (Pc a) = 0
 internalCycle (Latch v) = 0
+internalCycle (BlockRead a n) = 0
+internalCycle (BlockWrite a n) = 0
 
 -- the steps whose price has grounds
 abbrev pub isPriced : Step → Bool
@@ -189,9 +212,11 @@ isPriced (Waitcnt v) = false
 isPriced (Idle n) = false
 isPriced (Fetch a) = false
 isPriced (Restart a) = false
-isPriced (Instruction isa a op jump) = true
+isPriced (Instruction v isa a op jump) = true
 isPriced (Pc a) = false
 isPriced (Latch v) = false
+isPriced (BlockRead a n) = true
+isPriced (BlockWrite a n) = true
 
 -- ---- when a ground is named: the condition of each, at beat j of a step
 
@@ -255,6 +280,22 @@ abbrev pub dataCondition : Previous → AccessSize → ℕ → ℕ → Ground �
 dataCondition p z a j g =
     dataConditionOn z (firstCondition (forceNonseq (aligned z a)) (kindAfter p (aligned z a))) j g (busOf (decode a))
 
+-- how many beats a word has: two on the buses of 16 bits, else one
+abbrev pub wordBeats : Bus → ℕ
+wordBeats OnEwram = 2
+wordBeats OnVideo = 2
+wordBeats (OnRom win) = 2
+wordBeats OnSram = 1
+wordBeats OnFast = 1
+
+-- a beat of a block is one of its first word, or of the words behind it
+abbrev pub blockCondition : Previous → ℕ → ℕ → ℕ → Ground → Bool
+blockCondition p a zero j g = false
+blockCondition p a (suc n) j g =
+    let beats = wordBeats (busOf (decode a)) in
+    let behind = blockCondition (accessOf Word a) (further 4 a) n (j - beats) g in
+    if ltb j beats then dataCondition p Word a j g else behind
+
 abbrev pub condition : Clock → Step → ℕ → Ground → Bool
 condition c (Read z a) j g = dataCondition (previous c) z a j g
 condition c (Write z a v) j g = dataCondition (previous c) z a j g
@@ -262,10 +303,12 @@ condition c (Waitcnt v) j g = false
 condition c (Idle n) j g = false
 condition c (Fetch a) j g = false
 condition c (Restart a) j g = false
-condition c (Instruction isa a op jump) j g =
+condition c (Instruction v isa a op jump) j g =
     fetchConditionIn (hit (c .prefetch)) (c .«force_next_fetch_n») isa a j g (window a)
 condition c (Pc a) j g = false
 condition c (Latch v) j g = false
+condition c (BlockRead a n) j g = blockCondition (previous c) a n j g
+condition c (BlockWrite a n) j g = blockCondition (previous c) a n j g
 
 -- the ground of beat j, if there is one
 abbrev pub beatAt : List Ground → ℕ → BeatGround
@@ -359,14 +402,16 @@ pub record Explains (e : Explaining) (x : Explained) : Type 0 where
   -- the cycles of the grounds and the internal cycle make the cycles that the step is answered
   pub cycles : (k : ℕ) → isPriced (stepAt (e .run) k) ≡ true
       → (answerAt (e .run) k) .cycles
-      ≡ sum (map (worth (clockAt (e .run) k) (stepAt (e .run) k)) (groundsAt (e .run) k)) + internalCycle (stepAt (e .run) k)
+      ≡ sum (worths (clockAt (e .run) k) (stepAt (e .run) k)) + internalCycle (stepAt (e .run) k)
   -- other kinds have none
   pub none : (k : ℕ) → isPriced (stepAt (e .run) k) ≡ false → groundsAt (e .run) k ≡ []
   -- a ground is named at a beat exactly when its condition decides that beat
   pub named : (k j : ℕ) (g : Ground)
       → Exactly (beatAt (groundsAt (e .run) k) j ≡ By g) (condition (clockAt (e .run) k) (stepAt (e .run) k) j g ≡ true)
-  -- a step has at most two
-  pub few : (k : ℕ) → length (groundsAt (e .run) k) ≤ 2
+  -- one ground a number of cycles; at most two an access or a fetch, and 32 a step
+  pub each : (k : ℕ) → length (worths (clockAt (e .run) k) (stepAt (e .run) k)) ≡ length (groundsAt (e .run) k)
+  pub few : (k : ℕ) → length (groundsAt (e .run) k) ≤ 2 * turnsIn (stepAt (e .run) k)
+  pub room : (k : ℕ) → length (groundsAt (e .run) k) ≤ groundsLength
   -- bytes beyond the grounds are untouched
   pub beyond : drop (groundsStart (recordCount (e .run .sheet))) (x .grounds)
       ≡ drop (groundsStart (recordCount (e .run .sheet))) (e .grounds)

@@ -35,3 +35,5 @@ pub mod Billed
 pub mod Previewed
 pub mod Grounds
 pub mod Explained
+pub mod Blocks
+pub mod VersionOne

@@ -20,4 +20,5 @@ pub mod Alike
 pub mod Tariff
 pub mod Preview
 pub mod Grounds
+pub mod VersionOne
 pub mod Laws

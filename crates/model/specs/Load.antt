@@ -2,7 +2,7 @@
 -- From GBATEK, "GBA Memory Map" and "GBA Unpredictable Things"; src/bus/mod.rs (`Bus as CpuMem`) and openbus.rs; document 01,
 -- "mod.rs".
 use mathlib.Core.List.{List}
-use Prim.Native.Nat.{ℕ, _+_, _*_, _%_}
+use Prim.Native.Nat.{ℕ, zero, suc, _+_, _*_, _%_}
 use lib.Dec.{eqb, ltb}
 use Rattle.model.specs.Base.{if_then_else_, further, byteOf, byteAt}
 use Rattle.model.specs.Region.{biosSize}
@@ -60,6 +60,12 @@ abbrev pub load : Lengths → Bus → AccessSize → ℕ → ℕ
 load l b Byte a = load8 l b a
 load l b Half a = load16 l b a
 load l b Word a = load32 l b a
+
+-- a BLOCK READ (W-207) loads n words at rising addresses from `a` on, modulo 2^32, and answers the last; `v` is the one before
+-- them
+abbrev pub lastWord : Lengths → Bus → ℕ → ℕ → ℕ → ℕ
+lastWord l b v a zero = v
+lastWord l b v a (suc n) = lastWord l b (load l b Word a) (further 4 a) n
 
 -- a halfword load inside the ROM windows, which is all that the prefetch reads
 unfoldable pub romHalfword : List ℕ → ℕ → ℕ

@@ -1,5 +1,5 @@
 -- What the run gives back, and what it leaves: one function of all that is lent.
--- From document 01, "What the run gives back".
+-- From document 01, "What the run gives back", and document 02, W-207, by which the version may be 2.
 use mathlib.Core.Bool.{Bool, not, _&&_, _||_}
 use mathlib.Core.List.{List, [], _∷_, _++_}
 use Prim.Native.Nat.{ℕ, _+_, _*_}
@@ -9,7 +9,8 @@ use Rattle.model.specs.Base.{if_then_else_, AllBytes}
 use Rattle.model.specs.Region.{biosSize, ewramSize, iwramSize, ioSize, paletteSize, vramSize, oamSize, romSize, sramSize}
 use Rattle.model.specs.Memory.{lengthsSum}
 use Rattle.model.specs.Step.{Media, State, Result, run, total}
-use Rattle.model.specs.Sheet.{sheetVersion, isMarked, versionOf, isShaped, recordCount, recordsOf, stepsOf, leastFaulty}
+use Rattle.model.specs.Sheet.{latestVersion, knows, isMarked, versionOf, isShaped, recordCount, recordsOf, stepsOf}
+use Rattle.model.specs.Sheet.{leastFaulty}
 use Rattle.model.specs.BoardBytes.{answerLength, boardOf, boardBytes, sound, answersBytes}
 use Rattle.model.specs.declared.Lengths.{Lengths}
 use Rattle.model.specs.declared.Refusal.{Refusal}
@@ -66,12 +67,16 @@ firstRow (r ∷ rs) = byRow r (firstRow rs)
 
 -- ---- the run's table, in parts
 
-abbrev pub sheetRows : List ℕ → List Row
-sheetRows s =
+-- for a reader that knows the versions up to a latest one
+abbrev pub sheetRowsOf : ℕ → List ℕ → List Row
+sheetRowsOf latest s =
     row (not (isMarked s)) BadMark
-    ∷ row (not (eqb (versionOf s) sheetVersion)) BadVersion
+    ∷ row (not (knows latest (versionOf s))) BadVersion
     ∷ row (not (isShaped s)) BadShape
     ∷ []
+
+abbrev pub sheetRows : List ℕ → List Row
+sheetRows s = sheetRowsOf latestVersion s
 
 -- no memory is longer than its physical size, and the seven add up to the store
 unfoldable pub sizesFit : Lengths → ℕ → ℕ → ℕ → Bool
@@ -158,8 +163,8 @@ unfoldable pub ran : Lent → Result
 ran i = run (mediaOf i) (firstState i) (stepsOf (i .sheet))
 
 -- a refusal leaves all as lent; an accepted run writes board, store and an answer for each record
-abbrev pub outcomeBy : Lent → Verdict → Outcome
-outcomeBy i (Refused r) =
+abbrev pub outcomeOf : Lent → Result → Verdict → Outcome
+outcomeOf i done (Refused r) =
     record {
       number = refusalNumber r;
       index = refusalIndex r;
@@ -168,15 +173,18 @@ outcomeBy i (Refused r) =
       store = i .store;
       answers = i .answers;
     }
-outcomeBy i Accepted =
+outcomeOf i done Accepted =
     record {
       number = 0;
       index = recordCount (i .sheet);
-      total = total (ran i);
-      board = boardBytes ((ran i) .state .board);
-      store = (ran i) .state .store;
-      answers = answersBytes ((ran i) .answers) ++ drop (answerLength * recordCount (i .sheet)) (i .answers);
+      total = total done;
+      board = boardBytes (done .state .board);
+      store = done .state .store;
+      answers = answersBytes (done .answers) ++ drop (answerLength * recordCount (i .sheet)) (i .answers);
     }
+
+abbrev pub outcomeBy : Lent → Verdict → Outcome
+outcomeBy i v = outcomeOf i (ran i) v
 
 unfoldable pub outcome : Lent → Outcome
 outcome i = outcomeBy i (verdict i)

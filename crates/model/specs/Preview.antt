@@ -1,5 +1,5 @@
 -- Price before running: the answers that the clock tells without memories, what a preview gives back, and what is claimed of it.
--- From document 02, W-205.
+-- From document 02, W-205 and W-207.
 use mathlib.Core.Path.{_≡_}
 use mathlib.Core.Logic.{_≢_}
 use mathlib.Core.Bool.{_||_}
@@ -22,11 +22,12 @@ use Rattle.model.specs.declared.Verdict.{Verdict}
 use Rattle.model.specs.declared.Verdict.the-variants.{Accepted, Refused}
 use Rattle.model.specs.declared.Step.{Step}
 use Rattle.model.specs.declared.Step.the-variants.{Read, Write, Waitcnt, Idle, Fetch, Restart, Instruction, Pc, Latch}
+use Rattle.model.specs.declared.Step.the-variants.{BlockRead, BlockWrite}
 
 -- ---- the answers that the clock tells
 
--- an instruction answers `cart_idle`, which its price tells. What READ and FETCH answer only the memories tell, so it is left
--- out as 0; the other steps answer 0
+-- an instruction answers `cart_idle`, which its price tells. What READ, FETCH and BLOCK READ answer only the memories tell, so it
+-- is left out as 0; the other steps answer 0
 abbrev pub clockValue : Clock → Step → ℕ
 clockValue c (Read z a) = 0
 clockValue c (Write z a v) = 0
@@ -34,11 +35,13 @@ clockValue c (Waitcnt v) = 0
 clockValue c (Idle n) = 0
 clockValue c (Fetch a) = 0
 clockValue c (Restart a) = 0
-clockValue c (Instruction isa a op jump) = (priced c isa a op jump) .«cart_idle»
+clockValue c (Instruction v isa a op jump) = (priced c v isa a op jump) .«cart_idle»
 clockValue c (Pc a) = 0
 clockValue c (Latch v) = 0
+clockValue c (BlockRead a n) = 0
+clockValue c (BlockWrite a n) = 0
 
--- the hits are the halfwords taken from the buffer: none for WRITE, whose bytes that land only the memories tell
+-- the hits are the halfwords taken from the buffer: none for WRITE and BLOCK WRITE, whose bytes that land only the memories tell
 abbrev pub foretold : Clock → Step → Answer
 foretold c x =
     record {
@@ -126,11 +129,12 @@ lentWith q m =
       lengths = m .lengths;
     }
 
--- the zeros in the bytes of an answer, by the kind of its record: the value of READ (1) and FETCH (5), the hits of WRITE (2)
+-- the zeros in the bytes of an answer, by the kind of its record: the value of READ (1), FETCH (5) and BLOCK READ (10), the hits
+-- of WRITE (2) and BLOCK WRITE (11)
 unfoldable pub zeroed : ℕ → List ℕ → List ℕ
 zeroed kind b =
-    if eqb kind 1 || eqb kind 5 then bytes 4 0 ++ drop 4 b
-    else if eqb kind 2 then set b 8 0
+    if eqb kind 1 || eqb kind 5 || eqb kind 10 then bytes 4 0 ++ drop 4 b
+    else if eqb kind 2 || eqb kind 11 then set b 8 0
     else b
 
 -- something done to the bytes of each answer, by the kind of its record; bytes behind the answers are left alone

@@ -1,9 +1,9 @@
 -- What a data access costs: it is a list of beats, and its price is their sum.
--- From document 01, "Data price (added)", and document 02, W-204, with GBATEK's access times.
+-- From document 01, "Data price (added)", and document 02, W-204 and W-207, with GBATEK's access times.
 use mathlib.Core.List.{List, [], _∷_, map}
-use Prim.Native.Nat.{ℕ}
+use Prim.Native.Nat.{ℕ, zero, suc, _+_}
 use lib.Dec.{eqb}
-use Rattle.model.specs.Base.{if_then_else_, sum}
+use Rattle.model.specs.Base.{if_then_else_, sum, further}
 use Rattle.model.specs.Region.{decode, sameRegion}
 use Rattle.model.specs.Waitcnt.{Waits, romWaits, sramWaits}
 use Rattle.model.specs.Wait.{sizeBytes, accessSize, aligned, kindAt, classifyAccess}
@@ -132,3 +132,15 @@ dataBeats w p z a = dataBeatsIn (sramWaits w) z (firstKind p z a) (decode a)
 -- the cycles of an access of size `z` at address `a` under WAITCNT `w`, after the access `p`
 abbrev pub dataCycles : ℕ → Previous → AccessSize → ℕ → ℕ
 dataCycles w p z a = price (romWaits w) (dataBeats w p z a)
+
+-- ---- a block (W-207): n word accesses at rising addresses, from `a` on, modulo 2^32
+
+-- its cycles, after the access `p`: each word's, after the one before it
+abbrev pub blockCycles : ℕ → Previous → ℕ → ℕ → ℕ
+blockCycles w p a zero = 0
+blockCycles w p a (suc n) = dataCycles w p Word a + blockCycles w (accessOf Word a) (further 4 a) n
+
+-- behind it its last word is the previous access
+abbrev pub blockPrevious : Previous → ℕ → ℕ → Previous
+blockPrevious p a zero = p
+blockPrevious p a (suc n) = blockPrevious (accessOf Word a) (further 4 a) n

@@ -1,20 +1,20 @@
 -- A step, and the run over a list of steps. A step is two records: what it does to time (`timed`), a function of the clock
 -- and the step alone, and what it does to the contents (`changed`), where the memories enter. No definition of time has a
 -- memory among its arguments.
--- From document 01, "Records (added)", "Kind 7 (added)", "Data price (added)", and document 02, W-204; each step names the Rust
--- calls it stands for.
+-- From document 01, "Records (added)", "Kind 7 (added)", "Data price (added)", and document 02, W-204 and W-207; each step names
+-- the Rust calls it stands for.
 use mathlib.Core.Bool.{Bool, false, _&&_}
-use mathlib.Core.List.{List, [], _∷_, map}
-use Prim.Native.Nat.{ℕ, _+_}
+use mathlib.Core.List.{List, [], _∷_, _++_, map}
+use Prim.Native.Nat.{ℕ, zero, suc, _+_}
 use lib.ListN.{length, getD}
 use Rattle.model.specs.Base.{if_then_else_, bit, sum, further}
 use Rattle.model.specs.Waitcnt.{Waits, written, prefetchEnable, romWaits}
 use Rattle.model.specs.Wait.{window}
 use Rattle.model.specs.Prefetch.{setEnabled, restart, ticks, filled, hit, fetched}
-use Rattle.model.specs.Price.{Previous, previous, accessOf, noAccess, dataCycles}
+use Rattle.model.specs.Price.{Previous, previous, accessOf, noAccess, dataCycles, blockCycles, blockPrevious}
 use Rattle.model.specs.Timing.{priceInsn}
 use Rattle.model.specs.Memory.{target}
-use Rattle.model.specs.Load.{Bus, load, load16}
+use Rattle.model.specs.Load.{Bus, load, load16, lastWord}
 use Rattle.model.specs.Store.{Put, puts, landed, modeOf, videoCount, counted}
 use Rattle.model.specs.declared.PrefetchBuffer.{PrefetchBuffer}
 use Rattle.model.specs.declared.TimingInput.{TimingInput}
@@ -31,10 +31,13 @@ use Rattle.model.specs.declared.Target.the-variants.{Unused, SystemRom, 
 use Rattle.model.specs.declared.Windowed.{Windowed}
 use Rattle.model.specs.declared.Windowed.the-variants.{In, Outside}
 use Rattle.model.specs.declared.AccessSize.{AccessSize}
+use Rattle.model.specs.declared.AccessSize.the-variants.{Word}
+use Rattle.model.specs.declared.Version.{Version}
 use Rattle.model.specs.declared.IsaState.{IsaState}
 use Rattle.model.specs.declared.IsaState.the-variants.{Arm, Thumb}
 use Rattle.model.specs.declared.Step.{Step}
 use Rattle.model.specs.declared.Step.the-variants.{Read, Write, Waitcnt, Idle, Fetch, Restart, Instruction, Pc, Latch}
+use Rattle.model.specs.declared.Step.the-variants.{BlockRead, BlockWrite}
 
 -- ---- the clock
 
@@ -80,10 +83,11 @@ setWaitcnt c v =
       «prev_size» = c .«prev_size»;
     }
 
--- an instruction is priced with the board's switch and force flag
-abbrev pub timingInput : Clock → IsaState → ℕ → ℕ → Bool → TimingInput
-timingInput c isa a op jump =
+-- an instruction is priced with the board's switch and force flag, by the test of its sheet's version
+abbrev pub timingInput : Clock → Version → IsaState → ℕ → ℕ → Bool → TimingInput
+timingInput c v isa a op jump =
     record {
+      version = v;
       isa = isa;
       «code_addr» = a;
       «opcode_raw» = op;
@@ -92,8 +96,8 @@ timingInput c isa a op jump =
       «force_fetch_n» = c .«force_next_fetch_n»;
     }
 
-abbrev pub priced : Clock → IsaState → ℕ → ℕ → Bool → InsnCycles
-priced c isa a op jump = priceInsn (timingInput c isa a op jump) (waitsOf c) (c .prefetch)
+abbrev pub priced : Clock → Version → IsaState → ℕ → ℕ → Bool → InsnCycles
+priced c v isa a op jump = priceInsn (timingInput c v isa a op jump) (waitsOf c) (c .prefetch)
 
 -- its halves that the buffer has: one, or two at the address and the address + 2
 abbrev pub romHits : PrefetchBuffer → ℕ → IsaState → ℕ
@@ -124,17 +128,31 @@ codeFetched c isa a = fetchedIn (waitsOf c) (c .prefetch) a isa (window a)
 
 -- the clock after an instruction is priced and fetched: the force flag is what it leaves to the next, and no data access is the
 -- previous one
-unfoldable pub codeClock : Clock → IsaState → ℕ → ℕ → Bool → Clock
-codeClock c isa a op jump =
+unfoldable pub codeClock : Clock → Version → IsaState → ℕ → ℕ → Bool → Clock
+codeClock c v isa a op jump =
     record {
       waitcnt = c .waitcnt;
-      «force_next_fetch_n» = (priced c isa a op jump) .«latch_disable_bug»;
+      «force_next_fetch_n» = (priced c v isa a op jump) .«latch_disable_bug»;
       prefetch = codeFetched c isa a;
       «prev_addr» = noAccess .addr;
       «prev_size» = noAccess .size;
     }
 
 -- ---- a step in time
+
+-- the accesses or fetches that a step stands for and prices: a block's are its words
+abbrev pub turnsIn : Step → ℕ
+turnsIn (Read z a) = 1
+turnsIn (Write z a v) = 1
+turnsIn (Waitcnt v) = 0
+turnsIn (Idle n) = 0
+turnsIn (Fetch a) = 0
+turnsIn (Restart a) = 0
+turnsIn (Instruction v isa a op jump) = 1
+turnsIn (Pc a) = 0
+turnsIn (Latch v) = 0
+turnsIn (BlockRead a n) = n
+turnsIn (BlockWrite a n) = n
 
 -- what a step does to time: the clock up to its idle cycles, how many of these follow, what it costs, and the halfwords that
 -- it takes from the buffer
@@ -147,18 +165,29 @@ pub record Timed : Type 0 where
 abbrev pub timing : Clock → ℕ → ℕ → ℕ → Timed
 timing c idle cycles hits = record { clock = c; idle = idle; cycles = cycles; hits = hits }
 
+-- a data access, whether it reads or writes
+abbrev pub accessTimed : Clock → AccessSize → ℕ → Timed
+accessTimed c z a = timing (accessed c z a) 0 (dataCycles (c .waitcnt) (previous c) z a) 0
+
+-- so many words, whether they are read or written (W-207)
+abbrev pub blockTimed : Clock → ℕ → ℕ → Timed
+blockTimed c a n =
+    timing (withPrevious c (blockPrevious (previous c) a n)) 0 (blockCycles (c .waitcnt) (previous c) a n) 0
+
 abbrev pub timed : Clock → Step → Timed
-timed c (Read z a) = timing (accessed c z a) 0 (dataCycles (c .waitcnt) (previous c) z a) 0
-timed c (Write z a v) = timing (accessed c z a) 0 (dataCycles (c .waitcnt) (previous c) z a) 0
+timed c (Read z a) = accessTimed c z a
+timed c (Write z a v) = accessTimed c z a
 timed c (Waitcnt v) = timing (cleared (setWaitcnt c v)) 0 0 0
 timed c (Idle n) = timing c n n 0
 timed c (Fetch a) = timing (cleared (withPrefetch c (fetched (c .prefetch) a))) 0 0 (bit (hit (c .prefetch) a))
 timed c (Restart a) = timing (cleared (withPrefetch c (restart (waitsOf c) (c .prefetch) a))) 0 0 0
-timed c (Instruction isa a op jump) =
-    timing (codeClock c isa a op jump) ((priced c isa a op jump) .«cart_idle»)
-    ((priced c isa a op jump) .total) (codeHits c isa a)
+timed c (Instruction v isa a op jump) =
+    timing (codeClock c v isa a op jump) ((priced c v isa a op jump) .«cart_idle»)
+    ((priced c v isa a op jump) .total) (codeHits c isa a)
 timed c (Pc a) = timing c 0 0 0
 timed c (Latch v) = timing c 0 0 0
+timed c (BlockRead a n) = blockTimed c a n
+timed c (BlockWrite a n) = blockTimed c a n
 
 -- the clock with a step's idle cycles behind it
 abbrev pub idled : Timed → Clock
@@ -219,10 +248,9 @@ countedAt (Plain p i) n d = d
 countedAt (Video m p i) n d = countedIn m n d
 countedAt (Sram p i) n d = d
 
--- a store counts as many as `videoCount` says
-unfoldable pub countStore : Media → State → AccessSize → ℕ → Contents
-countStore m s z a =
-    countedAt (target (m .lengths) a) (videoCount (modeOf (m .lengths) (s .store)) z (target (m .lengths) a)) (s .board .contents)
+-- a store counts as many as `videoCount` says, in the display mode of its moment
+unfoldable pub countStore : Lengths → List ℕ → Contents → AccessSize → ℕ → Contents
+countStore l s d z a = countedAt (target l a) (videoCount (modeOf l s) z (target l a)) d
 
 abbrev pub withPc : Contents → ℕ → Contents
 withPc d a =
@@ -259,16 +287,30 @@ change v d ps = record { value = v; contents = d; puts = ps }
 abbrev pub answering : State → ℕ → Changed
 answering s v = change v (s .board .contents) []
 
+-- a store of `v`, over these lengths, contents and lent bytes
+abbrev pub stores : Lengths → Contents → List ℕ → AccessSize → ℕ → ℕ → Changed
+stores l d s z a v = change 0 (countStore l s d z a) (puts l (modeOf l s) z a v)
+
+-- a BLOCK WRITE (W-207) stores 0 in each of n words, from the address `a` on, modulo 2^32
+abbrev pub blockStores : Lengths → Contents → List ℕ → ℕ → ℕ → Changed
+blockStores l d s a zero = change 0 d []
+blockStores l d s a (suc n) =
+    let word = stores l d s Word a 0 in
+    let rest = blockStores l (word .contents) (landed s (word .puts)) (further 4 a) n in
+    change 0 (rest .contents) (word .puts ++ rest .puts)
+
 abbrev pub changed : Media → State → Step → Changed
 changed m s (Read z a) = answering s (load (m .lengths) (busOf m s) z a)
-changed m s (Write z a v) = change 0 (countStore m s z a) (puts (m .lengths) (modeOf (m .lengths) (s .store)) z a v)
+changed m s (Write z a v) = stores (m .lengths) (s .board .contents) (s .store) z a v
 changed m s (Waitcnt v) = answering s 0
 changed m s (Idle n) = answering s 0
 changed m s (Fetch a) = answering s (halfAt (s .board) a)
 changed m s (Restart a) = answering s 0
-changed m s (Instruction isa a op jump) = answering s ((priced (s .board .clock) isa a op jump) .«cart_idle»)
+changed m s (Instruction v isa a op jump) = answering s ((priced (s .board .clock) v isa a op jump) .«cart_idle»)
 changed m s (Pc a) = change 0 (withPc (s .board .contents) a) []
 changed m s (Latch v) = change 0 (withLatch (s .board .contents) v) []
+changed m s (BlockRead a n) = answering s (lastWord (m .lengths) (busOf m s) 0 a n)
+changed m s (BlockWrite a n) = blockStores (m .lengths) (s .board .contents) (s .store) a n
 
 -- the halfwords after a step's idle cycles; the prefetch reads with the bus's halfword load
 abbrev pub refilled : Media → State → Timed → List ℕ

@@ -25,11 +25,13 @@ use Rattle.model.specs.declared.AccessSize.{AccessSize}
 use Rattle.model.specs.declared.AccessSize.the-variants.{Half, Word}
 use Rattle.model.specs.declared.IsaState.{IsaState}
 use Rattle.model.specs.declared.IsaState.the-variants.{Arm, Thumb}
+use Rattle.model.specs.declared.Version.{Version}
 
--- a Thumb opcode is the low 16 bits
-abbrev pub internal : IsaState → ℕ → Bool
-internal Arm raw = armInternal raw
-internal Thumb raw = thumbInternal (raw % 0x1_0000)
+-- whether an opcode is taken to have an internal cycle, by the test of a sheet's version (W-207); a Thumb opcode is the low 16
+-- bits
+abbrev pub internal : Version → IsaState → ℕ → Bool
+internal v Arm raw = armInternal raw
+internal v Thumb raw = thumbInternal v (raw % 0x1_0000)
 
 abbrev pub codeSize : IsaState → AccessSize
 codeSize Arm = Word
@@ -66,18 +68,20 @@ abbrev pub idleIn : Waits → ℕ → IsaState → Windowed → ℕ
 idleIn t a isa (In win) = 0
 idleIn t a isa Outside = beatCycles t (plainBeat a isa)
 
-unfoldable pub cartIdle : Waits → IsaState → ℕ → ℕ → ℕ
-cartIdle t isa a raw = idleIn t a isa (window a) + bit (internal isa raw)
+unfoldable pub cartIdle : Waits → Version → IsaState → ℕ → ℕ → ℕ
+cartIdle t v isa a raw = idleIn t a isa (window a) + bit (internal v isa raw)
 
-unfoldable pub disableBug : Bool → IsaState → ℕ → ℕ → Bool → Bool
-disableBug on isa a raw changed = forceNextFetchNonseq on (inWindow a) (internal isa raw) changed
+unfoldable pub disableBug : Bool → Version → IsaState → ℕ → ℕ → Bool → Bool
+disableBug on v isa a raw changed = forceNextFetchNonseq on (inWindow a) (internal v isa raw) changed
 
 unfoldable pub priceInsn : TimingInput → Waits → PrefetchBuffer → InsnCycles
 priceInsn i t p =
     record {
-      total = price t (fetchBeats p (i .«force_fetch_n») (i .isa) (i .«code_addr»)) + bit (internal (i .isa) (i .«opcode_raw»));
-      internal = bit (internal (i .isa) (i .«opcode_raw»));
-      «cart_idle» = cartIdle t (i .isa) (i .«code_addr») (i .«opcode_raw»);
-      «latch_disable_bug» = disableBug (i .«prefetch_enabled») (i .isa) (i .«code_addr») (i .«opcode_raw») (i .«pc_changed»);
+      total = price t (fetchBeats p (i .«force_fetch_n») (i .isa) (i .«code_addr»))
+          + bit (internal (i .version) (i .isa) (i .«opcode_raw»));
+      internal = bit (internal (i .version) (i .isa) (i .«opcode_raw»));
+      «cart_idle» = cartIdle t (i .version) (i .isa) (i .«code_addr») (i .«opcode_raw»);
+      «latch_disable_bug» =
+          disableBug (i .«prefetch_enabled») (i .version) (i .isa) (i .«code_addr») (i .«opcode_raw») (i .«pc_changed»);
       «fetch_kind» = nonseqIf (i .«force_fetch_n»);
     }

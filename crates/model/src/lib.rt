@@ -115,6 +115,8 @@ pub enum IsaState {
 }
 
 pub struct TimingInput {
+    // Added (W-207): by which version's test an internal cycle is looked for.
+    pub version: Version,
     pub isa: IsaState,
     pub code_addr: u32,
     pub opcode_raw: u32,
@@ -150,8 +152,13 @@ pub const BOARD_LENGTH: usize = 80;
 // The most records of a sheet.
 pub const MAX_RECORDS: usize = 4096;
 
-// The version of a sheet.
-pub const VERSION: u16 = 1;
+// The versions of a sheet: the first, and the latest that is known.
+pub const FIRST_VERSION: u16 = 1;
+
+pub const LATEST_VERSION: u16 = 2;
+
+// The most words of a block (W-207).
+pub const MAX_WORDS: u32 = 16;
 
 // ---- added: the contract's tariff (W-202)
 
@@ -163,8 +170,16 @@ pub const MAX_RATE: u32 = 1_000_000;
 
 // ---- added: a step, and the state that a run carries
 
-// A record of a sheet: its 12 bytes as fields.
+// The version by whose rules a sheet is read (W-207). It decides which kinds there are and where Thumb's POP is looked for, and
+// nothing else.
+pub enum Version {
+    One,
+    Two,
+}
+
+// A record of a sheet: the sheet's version, and its 12 bytes as fields.
 pub struct SheetRecord {
+    pub version: Version,
     pub kind: u8,
     pub size: u8,
     pub flag: u8,
@@ -173,7 +188,8 @@ pub struct SheetRecord {
     pub value: u32,
 }
 
-// A record decoded: one variant for each of the nine kinds, in their order.
+// A record decoded: one variant for each of the eleven kinds, in their order. A block has the address of its first word, lowered
+// to a multiple of 4, and the number of words.
 pub enum Step {
     Read(AccessSize, u32),
     Write(AccessSize, u32, u32),
@@ -181,9 +197,11 @@ pub enum Step {
     Idle(u32),
     Fetch(u32),
     Restart(u32),
-    Instruction(IsaState, u32, u32, bool),
+    Instruction(Version, IsaState, u32, u32, bool),
     Pc(u32),
     Latch(u32),
+    BlockRead(u32, u32),
+    BlockWrite(u32, u32),
 }
 
 // The part of a board on which cycles, counts, the force flag and the hits in the buffer depend, and nothing else of it.
@@ -327,7 +345,7 @@ pub enum BeatGround {
 pub struct Answer {
     pub value: u32,
     pub cycles: u32,
-    // The halfwords taken from the buffer; of a WRITE, the bytes that landed (W-201).
+    // The halfwords taken from the buffer; of a WRITE or a BLOCK WRITE, the bytes that landed (W-201, W-207).
     pub hits: u8,
     pub count: u8,
     pub force: bool,

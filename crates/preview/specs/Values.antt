@@ -2,9 +2,9 @@
 -- that is left to do to the answers of such a run.
 use mathlib.Core.Path.{_≡_, refl, sym, ap, ap₂, _∙_}
 use mathlib.Core.List.{List, [], _∷_, _++_}
-use Prim.Native.Nat.{ℕ, suc, _+_, _-_, _*_, _≤_, _<_}
+use Prim.Native.Nat.{ℕ, zero, suc, _+_, _-_, _*_, _≤_, _<_}
 use native.Mathlib.Omega.{arith}
-use native.Mathlib.Nat.{sub-zero, sub-self}
+use native.Mathlib.Nat.{zero-add, sub-zero, sub-self}
 use lib.ListN.{length, take, drop, take-append-drop, length-append, length-drop}
 use lib.Seq.{length-take-le, drop-drop}
 use borrow.Rule.Slice.PartMut.{putMid, same-len-mid}
@@ -12,7 +12,7 @@ use lib.Dec.{eqb}
 use Rattle.model.specs.Base.{if_then_else_, bytes, number, AllBytes}
 use Rattle.model.specs.Memory.{noLengths}
 use Rattle.model.specs.Store.{Put, puts, modeOf}
-use Rattle.model.specs.Step.{Media, State, run, stepped, answer}
+use Rattle.model.specs.Step.{Media, State, blockStores, run, stepped, answer}
 use Rattle.model.specs.Sheet.{maxRecords, recordStart, recordAt, recordCount, recordsFrom, recordsOf, stepOf, stepsOf}
 use Rattle.model.specs.BoardBytes.{answerLength, answerBytes, answersBytes}
 use Rattle.model.specs.Outcome.{mediaOf, firstState, ran}
@@ -20,16 +20,18 @@ use Rattle.model.specs.Preview.{Asked, previewAnswers, noMemories, lentWith, ea
 use Rattle.model.specs.Laws.Choice.{All, by-test, either, if-true, if-false}
 use Rattle.model.specs.Laws.Kinds.{by-kind}
 use Rattle.model.specs.Laws.Codec.{bytes-number, put-before, mid-before}
-use Rattle.model.specs.Laws.Landed.{written, write-hits}
+use Rattle.model.specs.Laws.Landed.{written, block-own, write-hits}
 use Rattle.model.specs.Laws.Times.{withHits, withValue, blanked, eachStep, run-blanked}
 use Rattle.model.specs.Laws.Limits.{records-length}
 use Rattle.model.specs.Laws.Fits.{answers-count}
 use Rattle.model.specs.Laws.Previewed.{each-answer}
 use Rattle.model.specs.declared.AccessSize.{AccessSize}
 use Rattle.model.specs.declared.Answer.{Answer}
+use Rattle.model.specs.declared.Contents.{Contents}
 use Rattle.model.specs.declared.SheetRecord.{SheetRecord}
 use Rattle.model.specs.declared.Step.{Step}
 use Rattle.model.specs.declared.Step.the-variants.{Read, Write, Waitcnt, Idle, Fetch, Restart, Instruction, Pc, Latch}
+use Rattle.model.specs.declared.Step.the-variants.{BlockRead, BlockWrite}
 
 -- the bytes of a value: an INSTRUCTION's (7) its own, of every other kind 0
 unfoldable pub valueBytes : ℕ → List ℕ → List ℕ
@@ -74,15 +76,17 @@ valued (Waitcnt v) y = withValue 0 y
 valued (Idle n) y = withValue 0 y
 valued (Fetch a) y = withValue 0 y
 valued (Restart a) y = withValue 0 y
-valued (Instruction isa a op jump) y = y
+valued (Instruction v isa a op jump) y = y
 valued (Pc a) y = withValue 0 y
 valued (Latch v) y = withValue 0 y
+valued (BlockRead a n) y = withValue 0 y
+valued (BlockWrite a n) y = withValue 0 y
 
 valued-answer : (r : SheetRecord) (y : Answer) → clockValued (r .kind) (answerBytes y) ≡ answerBytes (valued (stepOf r) y)
 unfolding valueBytes
 valued-answer r y =
     by-kind (λ (k : ℕ) (x : Step). clockValued k (answerBytes y) ≡ answerBytes (valued x y)) r
-    refl refl refl refl refl refl refl refl (λ o. rw (o .instruction))
+    refl refl refl refl refl refl refl refl refl refl (λ o. rw (o .instruction))
 
 -- no place of a store of no bytes
 none-within : (ps : List Put) → All (λ (p : Put). p .place < 0) ps → ps ≡ []
@@ -91,6 +95,10 @@ none-within (p ∷ ps) h = absurd (omega (arith, h .0))
 
 nothing-lands : (mode : ℕ) (z : AccessSize) (a v : ℕ) → puts noLengths mode z a v ≡ []
 nothing-lands mode z a v = none-within _ ((written noLengths mode z a v) .own)
+
+-- nor of a block's
+none-of-block : (d : Contents) (s : List ℕ) (a n : ℕ) → (blockStores noLengths d s a n) .puts ≡ []
+none-of-block d s a n = none-within _ (block-own noLengths d s a n)
 
 -- over no memories: the values are all that is left to blank
 module _ (bios rom : List ℕ) where
@@ -106,9 +114,14 @@ module _ (bios rom : List ℕ) where
   step-valued s (Idle n) = refl
   step-valued s (Fetch a) = refl
   step-valued s (Restart a) = refl
-  step-valued s (Instruction isa a op jump) = refl
+  step-valued s (Instruction v isa a op jump) = refl
   step-valued s (Pc a) = refl
   step-valued s (Latch v) = refl
+  step-valued s (BlockRead a n) = refl
+  step-valued s (BlockWrite a zero) = refl
+  step-valued s (BlockWrite a (suc n)) =
+      ap (λ (k : ℕ). withHits k (answer media s (BlockWrite a (suc n))))
+      (zero-add _ ∙ ap length (none-of-block (s .board .contents) (s .store) a (suc n)))
 
   run-valued : (s : State) (xs : List Step)
       → eachStep valued xs ((run media s xs) .answers) ≡ eachStep blanked xs ((run media s xs) .answers)

@@ -14,6 +14,7 @@ use Rattle.model.specs.declared.Step.the-variants.{Latch}
 abbrev pub withKind : ℕ → SheetRecord → SheetRecord
 withKind kind r =
     record {
+      version = r .version;
       kind = kind;
       size = r .size;
       flag = r .flag;
@@ -26,11 +27,11 @@ withKind kind r =
 pub of-kind : (r : SheetRecord) {x : Step} (n : ℕ) → r .kind ≡ n → x ≡ stepOf (withKind n r) → x ≡ stepOf r
 of-kind r n e d = d ∙ sym (ap (λ (k : ℕ). stepOf (withKind k r)) e)
 
--- past the kinds with a test of their own
-pub past-kinds : (r : SheetRecord) → 8 < r .kind → Latch (r .value) ≡ stepOf r
+-- past all kinds
+pub past-kinds : (r : SheetRecord) → 11 < r .kind → Latch (r .value) ≡ stepOf r
 unfolding stepOf
 past-kinds r h =
-    let none : (n : ℕ) → leb n 8 ≡ true → eqb (r .kind) n ≡ false =
-    λ n m. ne-eqb (r .kind) n (omega (arith, leb-true n 8 m))
+    let none : (n : ℕ) → leb n 11 ≡ true → eqb (r .kind) n ≡ false =
+    λ n m. ne-eqb (r .kind) n (omega (arith, leb-true n 11 m))
     in
     simp none

@@ -1,11 +1,17 @@
 -- The search for the least faulty of n records. Assumes nothing.
-use mathlib.Core.Path.{_≡_, sym, ap, _∙_}
+use mathlib.Core.Path.{_≡_, refl, sym, ap, _∙_}
 use mathlib.Core.Bool.{Bool, true, false}
 use mathlib.Core.List.{List}
 use Prim.Native.Nat.{ℕ, suc, _+_, _-_, _≤_, _<_}
 use native.Mathlib.Nat.{zero-add, add-zero}
 use native.Mathlib.Omega.{arith}
-use Rattle.model.specs.Sheet.{recordAt, recordsFrom, faulty, firstOf, leastFaulty}
+use Rattle.model.specs.Sheet.{rulesOf, recordAt, recordsFrom, faulty, firstOf, leastFaulty}
+use Rattle.model.specs.declared.Version.{Version}
+
+-- a record has the version of its sheet
+pub version-at : (s : List ℕ) (k : ℕ) → (recordAt s k) .version ≡ rulesOf s
+unfolding recordAt
+version-at s k = refl
 
 -- it is none of the records before the last `left` ones
 pub record Sought (s : List ℕ) (n left : ℕ) : Type 0 where

@@ -4,7 +4,7 @@
 //
 // The sample, the file `stdin`, was recorded by `tests/against-rust/run --record crates/replay/stdin` from the Rust at commit
 // 46607fe0ef, built unchanged but for a way to its prefetch's private fields. tests/against-rust/README.md has the format. Its
-// 1,235 cases are the worked figures' lists; random lists over memories of 0, 1, odd and other lengths; sound boards that no
+// 1,833 cases are the worked figures' lists; random lists over memories of 0, 1, odd and other lengths; sound boards that no
 // list of steps leads to, among them counters near 2^64 - 1; fills across each window edge, and one stopped after each number
 // of cycles; each refusal alone and each two of them; each way to break a board, boards of other lengths, and random damage;
 // each kind of record with each field wrong; each two faults of records, in either order, and faults in the last of 4,096; lists
@@ -12,9 +12,11 @@
 // memory's end, at lengths of each residue modulo 4; each memory one byte too long; rows of data accesses in each window, around
 // blocks and edges, on boards with and without a previous access, with each other kind of step between; 103 runs under a
 // tariff, from one rounding edge to the next, with each refusal alone and each two of them; 120 previews, of each kind of
-// step, from boards of all sorts, with each of their refusals alone and each two of them; and 252 runs with grounds, each word
-// in its order of precedence, code across each edge with the force flag and the buffer, with each of their refusals alone and
-// each two of them.
+// step, from boards of all sorts, with each of their refusals alone and each two of them; 252 runs with grounds, each word in
+// its order of precedence, code across each edge with the force flag and the buffer, with each of their refusals alone and each
+// two of them; and, of version 2, 202 runs, 48 under a tariff, 173 with grounds and 175 previews: blocks of 1 to 16 words over
+// every edge, beside each other kind of step, the opcodes around POP, versions that there are and that there aren't, and each
+// refusal alone and each two of them.
 mod pattern;
 
 use bts::Bill;

@@ -24,6 +24,7 @@ use Rattle.model.specs.declared.Clock.{Clock}
 use Rattle.model.specs.declared.Contents.{Contents}
 use Rattle.model.specs.declared.InsnCycles.{InsnCycles}
 use Rattle.model.specs.declared.IsaState.{IsaState}
+use Rattle.model.specs.declared.Version.{Version}
 use Rattle.model.specs.declared.IsaState.the-variants.{Arm, Thumb}
 use Rattle.model.specs.declared.Step.the-variants.{Fetch, Instruction}
 use Rattle.step.specs.Begun.{mediaFrom, noLengths, stateFrom, begun}
@@ -121,16 +122,16 @@ instructing c d price fetch =
       contents = d;
     }
 
-pub instruct : (c : Clock) (d : Contents) (t : Waits) (isa : IsaState) (a op : ℕ) (jump : Bool)
+pub instruct : (c : Clock) (d : Contents) (t : Waits) (v : Version) (isa : IsaState) (a op : ℕ) (jump : Bool)
     {price : InsnCycles} {fetch : CodeFetch}
     → t ≡ romWaits (c .waitcnt)
-    → price ≡ priceInsn (timingInput c isa a op jump) t (c .prefetch)
+    → price ≡ priceInsn (timingInput c v isa a op jump) t (c .prefetch)
     → fetch ≡ codeFetch t (c .prefetch) a isa
-    → instructing c d price fetch ≡ begun (mediaFrom [] [] noLengths) (stateFrom c [] d []) (Instruction isa a op jump)
+    → instructing c d price fetch ≡ begun (mediaFrom [] [] noLengths) (stateFrom c [] d []) (Instruction v isa a op jump)
 unfolding codeClock codeFetched codeHits
-instruct c d t isa a op jump e p f =
+instruct c d t v isa a op jump e p f =
     ap₂ (instructing c d)
-    (p ∙ ap (λ (u : Waits). priceInsn (timingInput c isa a op jump) u (c .prefetch)) e)
+    (p ∙ ap (λ (u : Waits). priceInsn (timingInput c v isa a op jump) u (c .prefetch)) e)
     (f ∙ ap (λ (u : Waits). codeFetch u (c .prefetch) a isa) e
     -- it stores nothing
     ∙ ap (λ (n : ℕ). record { prefetch = codeFetched c isa a; hits = n }) (sym (add-zero (codeHits c isa a))))

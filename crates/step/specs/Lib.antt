@@ -2,4 +2,5 @@
 pub mod Begun
 pub mod Access
 pub mod Fetch
+pub mod Block
 pub mod Whole

@@ -11,6 +11,7 @@ use model::Region;
 use model::Step;
 use model::Target;
 use model::TimingInput;
+use model::Version;
 use model::VideoMemory;
 use model::Windowed;
 use prefetch::Half;
@@ -18,17 +19,24 @@ use stores::saturating_add;
 use waits::waitcnt::WaitCnt;
 ghost use mathlib.Core.Path.{_≡_};
 ghost use mathlib.Core.List.{[]};
-ghost use Prim.Native.Nat.{_<_};
+ghost use Prim.Native.Nat.{_-_, _*_, _≤_, _<_};
 ghost use lib.ListN.{length};
 ghost use Rattle.model.specs.Waitcnt.{romWaits, sramWaits};
 ghost use Rattle.model.specs.Wait.{sizeBytes, kindAt};
-ghost use Rattle.model.specs.Price.{price, previously, kindAfter, dataBeatsIn};
+ghost use Rattle.model.specs.Price.{price, previously, kindAfter, dataBeatsIn, blockCycles};
+ghost use Rattle.model.specs.Load.{lastWord};
+ghost use Rattle.model.specs.Laws.Bounds.{Short};
 ghost use Rattle.model.specs.Step as machine;
 ghost use Rattle.model.specs.declared.IsaState.the-variants.{Arm, Thumb};
 ghost use Rattle.model.specs.declared.Step.the-variants as kind;
 ghost use Rattle.step.specs.Begun as def;
 ghost use Rattle.step.specs.Begun.{Runnable, Priceable, Reads, Writes};
+ghost use Rattle.model.specs.Base.{further};
+ghost use Rattle.model.specs.Sheet.{maxWords};
+ghost use Rattle.model.specs.Laws.Previous.{SoundPrevious};
+ghost use Rattle.step.specs.Block.{BlockRunnable, Loadable, Clears};
 ghost use Rattle.step.specs.Fetch.{fetchOf, codeFetch};
+ghost use Rattle.loads.specs.Bus.{bus};
 
 // A step up to its idle cycles, and how many of them follow.
 struct Begun {
@@ -216,6 +224,174 @@ fn write_step(
     }
 }
 
+// ---- blocks (W-207): word accesses at rising addresses
+
+// The cycles of a block: each word is priced by itself, after the access before it. The waits are built here: an array that is
+// handed to a function which stays one would stand in memory throughout the run.
+fn block_cycles(waitcnt: u16, prev_addr: u32, prev_size: u32, addr: u32, words: u32) -> u32
+    requires { ⌜ SoundPrevious (previously «prev_addr» «prev_size») × (words ≤ maxWords) ⌝ }
+    ensures { λ r. ⌜ r ≡ blockCycles waitcnt (previously «prev_addr» «prev_size») addr words ⌝ }
+{
+    let waits = waits::rom_waits(WaitCnt { raw: waitcnt });
+    let mut from = prev_addr;
+    let mut size = prev_size;
+    let mut cycles: u32 = 0;
+    let mut at = addr;
+    let mut left = words;
+    while left > 0 {
+        let low = waits::aligned(AccessSize::Word, at);
+        let price = data_price(
+            waitcnt,
+            from,
+            size,
+            waits,
+            AccessSize::Word,
+            low,
+            region::decode(at),
+        );
+        from = low;
+        size = 4;
+        cycles += price;
+        at = std::num::wrapping_add_u32(at, 4);
+        left -= 1;
+    }
+    cycles
+}
+
+// The address of a block's last word.
+fn last_of(addr: u32, words: u32) -> u32
+    requires { ⌜ (1 ≤ words) × (words ≤ maxWords) ⌝ }
+    ensures { λ r. ⌜ r ≡ further (4 * (words - 1)) addr ⌝ }
+{
+    std::num::wrapping_add_u32(addr, 4 * (words - 1))
+}
+
+// The clock behind a block: its last word is the previous access.
+fn block_clock(clock: Clock, addr: u32, words: u32) -> Clock
+    requires { ⌜ (1 ≤ words) × (words ≤ maxWords) ⌝ }
+    ensures { λ r. ⌜ r ≡ (machine.blockTimed clock addr words) .clock ⌝ }
+{
+    accessed(
+        clock,
+        AccessSize::Word,
+        waits::aligned(AccessSize::Word, last_of(addr, words)),
+    )
+}
+
+// The last word of a block: a load changes nothing, so that the others need not be loaded.
+fn last_word(
+    pc: u32,
+    latch: u32,
+    addr: u32,
+    words: u32,
+    store: &[u8],
+    bios: &[u8],
+    rom: &[u8],
+    lengths: Lengths,
+) -> u32
+    requires { ⌜ Loadable lengths words (now store) ⌝ }
+    ensures { λ r. ⌜ r ≡ lastWord lengths (bus pc latch (now (bios .entry)) (now (rom .entry)) (now (store .entry)))
+        0 addr words ⌝ }
+{
+    let last = last_of(addr, words);
+    let target = parts::target_of(last, lengths);
+    loads::read32(target, last, pc, latch, bios, rom, store, lengths)
+}
+
+// BLOCK READ: `read32`, once a word; the last word is the answer.
+fn block_read_step(
+    clock: Clock,
+    contents: Contents,
+    addr: u32,
+    words: u32,
+    store: &[u8],
+    bios: &[u8],
+    rom: &[u8],
+    lengths: Lengths,
+) -> Begun
+    requires { ⌜ BlockRunnable clock lengths (now store) × Short (kind.BlockRead addr words) ⌝ }
+    ensures { λ r. ⌜ r ≡ def.begun (def.mediaFrom (now (bios .entry)) (now (rom .entry)) lengths)
+        (def.stateFrom clock [] contents (now (store .entry))) (kind.BlockRead addr words) ⌝ }
+{
+    let cycles = block_cycles(clock.waitcnt, clock.prev_addr, clock.prev_size, addr, words);
+    let pc = contents.cpu_pc;
+    let latch = contents.last_bios_opcode;
+    let value = last_word(pc, latch, addr, words, store, bios, rom, lengths);
+    let after = block_clock(clock, addr, words);
+    Begun {
+        clock: after,
+        idle: 0,
+        cycles,
+        hits: 0,
+        value,
+        contents,
+    }
+}
+
+// What a block that stores leaves besides the store: the counters, and how many bytes landed.
+struct Zeroed {
+    contents: Contents,
+    landed: u64,
+}
+
+// Stores 0 in each word.
+fn clear_words(
+    contents: Contents,
+    addr: u32,
+    words: u32,
+    store: &mut [u8],
+    lengths: Lengths,
+) -> Zeroed
+    requires { ⌜ Loadable lengths words (now store) ⌝ }
+    ensures { λ r. ⌜ Clears (machine.blockStores lengths contents (now (store .entry)) addr words)
+        (now (store .entry)) r (now (store .exit)) ⌝ }
+{
+    let mut held = contents;
+    let mut landed: u64 = 0;
+    let mut at = addr;
+    let mut left = words;
+    while left > 0 {
+        let target = parts::target_of(at, lengths);
+        let stored = stores::write_word(target, at, 0, store);
+        let counted = count_store(held, target, stored.halfwords);
+        held = counted;
+        landed += stored.landed;
+        at = std::num::wrapping_add_u32(at, 4);
+        left -= 1;
+    }
+    Zeroed {
+        contents: held,
+        landed,
+    }
+}
+
+// BLOCK WRITE: `write32` of 0, once a word.
+fn block_write_step(
+    clock: Clock,
+    contents: Contents,
+    addr: u32,
+    words: u32,
+    store: &mut [u8],
+    lengths: Lengths,
+) -> Begun
+    requires { ⌜ BlockRunnable clock lengths (now store) × Short (kind.BlockWrite addr words) ⌝ }
+    ensures { λ r. ⌜ def.Begins (def.mediaFrom [] [] lengths) (def.stateFrom clock [] contents (now (store .entry)))
+        (kind.BlockWrite addr words) r (now (store .exit)) ⌝ }
+{
+    let cycles = block_cycles(clock.waitcnt, clock.prev_addr, clock.prev_size, addr, words);
+    let zeroed = clear_words(contents, addr, words, store, lengths);
+    let after = block_clock(clock, addr, words);
+    let left = zeroed.contents;
+    Begun {
+        clock: after,
+        idle: 0,
+        cycles,
+        hits: (zeroed.landed % 256) as u8,
+        value: 0,
+        contents: left,
+    }
+}
+
 // WAITCNT: `write`, then `apply_waitcnt`.
 fn set_waitcnt(clock: Clock, value: u16) -> Clock
     ensures { λ r. ⌜ r ≡ machine.setWaitcnt clock value ⌝ }
@@ -352,16 +528,18 @@ fn instruction_step(
     clock: Clock,
     contents: Contents,
     waits: [[u8; 2]; 3],
+    version: Version,
     isa: IsaState,
     addr: u32,
     opcode: u32,
     pc_changed: bool,
 ) -> Begun
     requires { ⌜ (waits ≡ romWaits (clock .waitcnt)) × (clock .prefetch .head < 8) ⌝ }
-    ensures { λ r. ⌜ r ≡ def.bare clock [] contents (kind.Instruction isa addr opcode «pc_changed») ⌝ }
+    ensures { λ r. ⌜ r ≡ def.bare clock [] contents (kind.Instruction version isa addr opcode «pc_changed») ⌝ }
 {
     let p = clock.prefetch;
     let input = TimingInput {
+        version,
         isa,
         code_addr: addr,
         opcode_raw: opcode,
@@ -428,7 +606,7 @@ fn begin(
     rom: &[u8],
     lengths: Lengths,
 ) -> Begun
-    requires { ⌜ Runnable clock waits lengths (now store) ⌝ }
+    requires { ⌜ Runnable clock waits lengths (now store) × Short step ⌝ }
     ensures { λ r. ⌜ def.Begins (def.mediaFrom (now (bios .entry)) (now (rom .entry)) lengths)
         (def.stateFrom clock (now (halves .entry)) contents (now (store .entry)))
         step r (now (store .exit)) ⌝ }
@@ -459,11 +637,36 @@ fn begin(
         Step::Idle(cycles) => unanswered(clock, contents, cycles, cycles),
         Step::Fetch(addr) => fetch_step(clock, contents, halves, addr),
         Step::Restart(addr) => unanswered(restarted(clock, waits, addr), contents, 0, 0),
-        Step::Instruction(isa, addr, opcode, pc_changed) => {
-            instruction_step(clock, contents, waits, isa, addr, opcode, pc_changed)
-        }
+        Step::Instruction(version, isa, addr, opcode, pc_changed) => instruction_step(
+            clock,
+            contents,
+            waits,
+            version,
+            isa,
+            addr,
+            opcode,
+            pc_changed,
+        ),
         Step::Pc(addr) => unanswered(clock, with_pc(contents, addr), 0, 0),
         Step::Latch(value) => unanswered(clock, with_latch(contents, value), 0, 0),
+        Step::BlockRead(addr, words) => block_read_step(
+            clock,
+            contents,
+            addr,
+            words,
+            store,
+            bios,
+            rom,
+            lengths,
+        ),
+        Step::BlockWrite(addr, words) => block_write_step(
+            clock,
+            contents,
+            addr,
+            words,
+            store,
+            lengths,
+        ),
     }
 }
 
@@ -486,7 +689,7 @@ pub fn take_step(
     rom: &[u8],
     lengths: Lengths,
 ) -> Stepped
-    requires { ⌜ Runnable clock waits lengths (now store) ⌝ }
+    requires { ⌜ Runnable clock waits lengths (now store) × Short step ⌝ }
     ensures { λ r. ⌜ def.Steps (def.mediaFrom (now (bios .entry)) (now (rom .entry)) lengths)
         (def.stateFrom clock (now (halves .entry)) contents (now (store .entry)))
         step r (now (halves .exit)) (now (store .exit)) ⌝ }

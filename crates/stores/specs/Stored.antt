@@ -10,7 +10,7 @@ use Rattle.model.specs.Wait.{sizeBytes}
 use Rattle.model.specs.Store.{modeOf, putAligned, videoPuts, putsAt, videoCount}
 use Rattle.model.specs.Laws.Places.{Lies}
 use Rattle.model.specs.declared.AccessSize.{AccessSize}
-use Rattle.model.specs.declared.AccessSize.the-variants.{Byte}
+use Rattle.model.specs.declared.AccessSize.the-variants.{Byte, Word}
 use Rattle.model.specs.declared.Lengths.{Lengths}
 use Rattle.model.specs.declared.Part.{Part}
 use Rattle.model.specs.declared.Target.{Target}
@@ -29,6 +29,10 @@ StoredPlain z p i v before after r = Stores (putAligned p i (sizeBytes z) v) 0 b
 abbrev pub StoredAt : AccessSize → ℕ → ℕ → Target → Lengths → List ℕ → List ℕ → Stored → Type 0
 StoredAt z a v t l before after r =
     Stores (putsAt (modeOf l before) z a v t) (videoCount (modeOf l before) z t) before after r
+
+-- a word, which no display mode moves
+abbrev pub StoredWord : ℕ → ℕ → Target → List ℕ → List ℕ → Stored → Type 0
+StoredWord a v t before after r = (mode : ℕ) → Stores (putsAt mode Word a v t) (videoCount mode Word t) before after r
 
 -- a memory that is met, in a store of these lengths
 pub record Storable (t : Target) (l : Lengths) (store : List ℕ) : Type 0 where

@@ -24,7 +24,8 @@ ghost use Rattle.model.specs.Memory.{lengthsSum};
 ghost use Rattle.model.specs.Video.{fills};
 ghost use Rattle.model.specs.Store as def;
 ghost use Rattle.parts.specs.Stored.{Stores};
-ghost use Rattle.stores.specs.Stored.{Filled, StoredPlain, StoredAt, Storable};
+ghost use Rattle.model.specs.Laws.Places.{Lies};
+ghost use Rattle.stores.specs.Stored.{Filled, StoredPlain, StoredAt, StoredWord, Storable};
 ghost use Rattle.model.specs.declared.VideoMemory.the-variants.{VideoRam};
 ghost use Rattle.model.specs.declared.Target.the-variants.{Video};
 ghost use Rattle.video.specs.Actions.{fillsHalfword};
@@ -174,5 +175,27 @@ pub fn write(
             write_video(size, memory, part, index, value, store, lengths)
         }
         Target::Sram(part, index) => put(store, part, index, lane(value, addr % size_bytes(size))),
+    }
+}
+
+// `write32`, for the words of a block (W-207): in a function of its own, so that `write` has one caller, into which the compiler
+// puts it. It does the same in every display mode.
+pub fn write_word(target: Target, addr: u32, value: u32, store: &mut [u8]) -> Stored
+    requires { ⌜ Lies (length (now store)) target ⌝ }
+    ensures { λ r. ⌜ StoredWord addr value target (now (store .entry)) (now (store .exit)) r ⌝ }
+{
+    match target {
+        Target::Unused => dropped(),
+        Target::SystemRom => dropped(),
+        Target::GamePakRom => dropped(),
+        Target::Plain(part, index) => put_word(store, part, index, value),
+        Target::Video(_memory, part, index) => {
+            let word = put_word(store, part, index, value);
+            Stored {
+                landed: word.landed,
+                halfwords: 2,
+            }
+        }
+        Target::Sram(part, index) => put(store, part, index, lane(value, addr % 4)),
     }
 }

@@ -1,7 +1,9 @@
 // The opcodes that are taken to have internal cycles, and the prefetch disable bug. Port of src/bus/disable_bug.rs; the masks
 // are the Rust's.
 use model::AccessKind;
+use model::Version;
 ghost use mathlib.Core.Path.{_≡_};
+ghost use Prim.Native.Nat.{_*_};
 ghost use Rattle.model.specs.DisableBug as def;
 
 pub struct DisableBugInput {
@@ -47,15 +49,25 @@ pub fn arm_likely_i_cycles_no_pc(raw: u32) -> bool
     mul | ldr | ldm | swp | shift_rs
 }
 
-// LDR by immediate, from PC and from SP, LDMIA, and POP where the Rust looks for it.
-pub fn thumb_likely_i_cycles_no_pc(raw: u16) -> bool
-    ensures { λ r. ⌜ r ≡ def.thumbInternal raw ⌝ }
+// The high byte of Thumb's POP, its lowest bit clear: where the Rust looks for it, and from version 2 on where it is (W-207).
+fn pop_byte(version: Version) -> u16
+    ensures { λ r. ⌜ r ≡ 2 * def.popOpcode version ⌝ }
+{
+    match version {
+        Version::One => 0xBA,
+        Version::Two => 0xBC,
+    }
+}
+
+// LDR by immediate, from PC and from SP, LDMIA, and POP.
+pub fn thumb_likely_i_cycles_no_pc(version: Version, raw: u16) -> bool
+    ensures { λ r. ⌜ r ≡ def.thumbInternal version raw ⌝ }
 {
     let op = raw / 256;
     let ldr_imm = (op & 0xF8) == 0x68;
     let ldr_pc = (op & 0xF8) == 0x48;
     let ldr_sp = (op & 0xF8) == 0x98;
     let ldm = (op & 0xF8) == 0xC8;
-    let pop = (op & 0xFE) == 0xBA;
+    let pop = (op & 0xFE) == pop_byte(version);
     ldr_imm | ldr_pc | ldr_sp | ldm | pop
 }

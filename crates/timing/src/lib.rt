@@ -9,6 +9,7 @@ use model::PrefetchBuffer;
 use model::Region;
 use model::RomWindow;
 use model::TimingInput;
+use model::Version;
 use model::Windowed;
 ghost use mathlib.Core.Path.{_≡_};
 ghost use Rattle.model.specs.Region.{decode};
@@ -29,12 +30,14 @@ pub struct FetchPrice {
 }
 
 // Whether an opcode is taken to have an internal cycle; of a Thumb opcode the low 16 bits count.
-fn had_internal(isa: IsaState, raw: u32) -> bool
-    ensures { λ r. ⌜ r ≡ def.internal isa raw ⌝ }
+fn had_internal(version: Version, isa: IsaState, raw: u32) -> bool
+    ensures { λ r. ⌜ r ≡ def.internal version isa raw ⌝ }
 {
     match isa {
         IsaState::Arm => disable_bug::arm_likely_i_cycles_no_pc(raw),
-        IsaState::Thumb => disable_bug::thumb_likely_i_cycles_no_pc((raw % 0x1_0000) as u16),
+        IsaState::Thumb => {
+            disable_bug::thumb_likely_i_cycles_no_pc(version, (raw % 0x1_0000) as u16)
+        }
     }
 }
 
@@ -119,7 +122,8 @@ pub fn price_insn(input: TimingInput, waits: [[u8; 2]; 3], prefetch: PrefetchBuf
     ensures { λ r. ⌜ r ≡ def.priceInsn input waits prefetch ⌝ }
 {
     let isa = input.isa;
-    let had_i = had_internal(isa, input.opcode_raw);
+    let version = input.version;
+    let had_i = had_internal(version, isa, input.opcode_raw);
     let fetch_kind = waits::nonseq_if(input.force_fetch_n);
     let fetch = price_fetch(input.code_addr, fetch_kind, isa, waits, prefetch);
     let code_in_rom = waits::in_window(input.code_addr);

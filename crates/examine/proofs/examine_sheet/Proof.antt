@@ -1,10 +1,13 @@
 -- `examine_sheet` meets its contract: each test is its row's condition. Assumes nothing.
-use mathlib.Core.Path.{_≡_, sym, ap, _∙_}
-use mathlib.Core.Bool.{true, false, not}
-use lib.Dec.{eqb}
-use borrow.Author.Tests.{eq-eqb, ne-eqb}
+use mathlib.Core.Path.{_≡_, refl, sym, ap, _∙_}
+use mathlib.Core.Bool.{Bool, true, false, not, _&&_, _||_}
+use Prim.Native.Nat.{ℕ, zero, suc}
+use native.Mathlib.Omega.{arith}
+use lib.Dec.{ltb, leb}
+use borrow.Author.Tests.{lt-ltb, le-ltb, lt-leb, le-leb}
 use borrow.Author.Needs.{needs}
-use Rattle.model.specs.Sheet.{sheetVersion, isMarked, versionOf}
+use Rattle.model.specs.Sheet.{latestVersion, knows, isMarked, versionOf}
+use Rattle.model.specs.Laws.Choice.{by-test, tests}
 use Rattle.model.specs.Laws.Rows.{row-holds, row-passes}
 use Rattle.examine.proofs.examine_sheet.Statement.{statement}
 use Rattle.examine.proofs.examine_sheet.Tie as tie
@@ -19,8 +22,24 @@ marked c = ap not (sym (c .before .is-marked .ensures)) ∙ c .if1 .left
 abbrev past : tie.Else2 → tie.Else1
 past c = c .before .before
 
-known : (c : tie.Else2) → not (eqb (versionOf (entry (past c) .args .sheet .now)) sheetVersion) ≡ false
-known c = ap not (eq-eqb _ _ (sym (c .before .version-of .ensures) ∙ c .if2 .left))
+-- the code's test is the definition's
+over-not : (n m : ℕ) → ltb m n ≡ not (leb n m)
+over-not n m =
+    by-test (leb n m) (λ e. rw (e, le-ltb m n (omega (arith, tests)))) (λ e. rw (e, lt-ltb m n (omega (arith, tests))))
+
+either-not : (a b : Bool) → not a || not b ≡ not (a && b)
+either-not true b = refl
+either-not false b = refl
+
+unknown : (v : ℕ) → ltb v 1 || ltb latestVersion v ≡ not (knows latestVersion v)
+unknown v = rw (over-not 1 v, over-not v latestVersion) (either-not (leb 1 v) (leb v latestVersion))
+
+test-is : (c : tie.After-version-of) → (let v = c .version-of .result in
+    ltb v 1 || ltb latestVersion v ≡ not (knows latestVersion (versionOf (entry (c .before) .args .sheet .now))))
+test-is c = unknown (c .version-of .result) ∙ ap (λ (v : ℕ). not (knows latestVersion v)) (c .version-of .ensures)
+
+known : (c : tie.Else2) → not (knows latestVersion (versionOf (entry (past c) .args .sheet .now))) ≡ false
+known c = sym (test-is (c .before)) ∙ c .if2 .left
 
 returns : tie.Need-returns
 returns c = sym (row-holds _ _ (ap not (sym (c .before .is-marked .ensures)) ∙ c .if1 .taken))
@@ -29,7 +48,7 @@ returns-2 : tie.Need-returns-2
 returns-2 c =
     sym
     (row-passes _ _ (marked (c .before .before))
-    ∙ row-holds _ _ (ap not (ne-eqb _ _ (λ e. c .if2 .taken (c .before .version-of .ensures ∙ e)))))
+    ∙ row-holds _ _ (sym (test-is (c .before)) ∙ c .if2 .taken))
 
 returns-3 : tie.Need-returns-3
 returns-3 c =

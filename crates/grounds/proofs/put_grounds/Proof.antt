@@ -14,15 +14,15 @@ use Rattle.grounds.proofs.put_grounds.Statement.{statement}
 use Rattle.grounds.proofs.put_grounds.Tie as tie
 
 abbrev Inv-loop : tie.InvT-loop
-Inv-loop sheet n clock answers lent trail₀ k₀ grounds trail k = Going clock sheet n lent trail grounds k
+Inv-loop sheet n clock answers lent version trail₀ k₀ grounds trail k = Going clock sheet n lent trail grounds k
 
 abbrev μ-loop : tie.MeasureT-loop
-μ-loop sheet n clock answers lent trail₀ k₀ grounds trail k = n - k
+μ-loop sheet n clock answers lent version trail₀ k₀ grounds trail k = n - k
 
 -- ---- before the loop
 
 abbrev start : tie.After-begun Inv-loop μ-loop → tie.Start Inv-loop μ-loop
-start c = c .before .before .before .before
+start c = c .before .before .before .before .before
 
 loop-holds : tie.Need-loop-holds Inv-loop μ-loop
 loop-holds c =
@@ -53,7 +53,7 @@ before-step-requires c κs =
 record-at-requires : tie.Need-record-at-requires Inv-loop μ-loop
 record-at-requires c κs =
     let i = c .before .before in
-    omega (arith, began (i .before) .pre .long, i .loop-test .taken)
+    (omega (arith, began (i .before) .pre .long, i .loop-test .taken), i .before .before .before .rules-of .ensures)
 
 abbrev at-record : tie.After-record-at Inv-loop μ-loop → tie.In-loop Inv-loop μ-loop
 at-record c = c .before .before .before
@@ -109,6 +109,7 @@ put-grounds-spec =
     (tie.spec
     Inv-loop
     μ-loop
+    (λ c κs. search needs)
     (λ c κs. search needs)
     loop-holds
     before-step-requires

@@ -1,11 +1,19 @@
 -- `tell` meets its contract: each return decides the definition's tests on the kind. Assumes nothing.
-use mathlib.Core.Path.{ap, _∙_}
+use mathlib.Core.Path.{_≡_, ap, ap₂, _∙_}
+use mathlib.Core.Bool.{false, _||_}
 use Prim.Native.Nat.{ℕ}
+use lib.Dec.{eqb}
 use borrow.Author.Needs.{needs}
 use borrow.Author.Tests.{eq-eqb, ne-eqb, le-leb, lt-leb}
-use Rattle.grounds.specs.Trail.{trail, nowhere, beatsBy, trailAfter}
+use Rattle.model.specs.Grounds.{beatBytes}
+use Rattle.model.specs.Laws.Limits.{words-between}
+use Rattle.grounds.specs.Trail.{trail, nowhere, blockFrom, blockNext, beatsBy, trailAfter}
 use Rattle.grounds.proofs.tell.Statement.{statement}
 use Rattle.grounds.proofs.tell.Tie as tie
+
+-- IDLE is no block
+four-is-none : (k : ℕ) → k ≡ 4 → eqb k 10 || eqb k 11 ≡ false
+four-is-none k e = rw e
 
 -- ---- an instruction
 
@@ -36,30 +44,86 @@ returns-2 c =
       followed = ap (λ (n : ℕ). trail (entry i .args .trail .front) n) (c .data-next .ensures) ∙ simp (seven, two);
     }
 
--- ---- no grounds
+-- ---- behind the two: the bytes are 0
 
-abbrev tested : tie.After-put3 → tie.Else2
-tested c = c .before .before
+-- where they are put, and the start
+abbrev zeros : tie.After-slice-known4 → tie.After-put3
+zeros c = c .before .before
+
+abbrev begin : tie.After-put3 → tie.Start
+begin c = c .before .before .before .before .before .before .before
 
 returns-3 : tie.Need-returns-3
 unfolding beatsBy trailAfter
 returns-3 c =
-    let p = c .before .before .before .before in
-    let i = tested p in
+    let p = zeros (c .before .before) in
+    let i = p .before .before in
     let seven = ne-eqb _ _ (i .before .before .if1 .left) in
     let two = lt-leb _ _ (i .if2 .left) in
-    record { told = p .put3 .ensures ∙ simp (seven, two); followed = simp (seven, two, eq-eqb _ _ (c .if3 .taken)) }
+    let four = c .if3 .taken in
+    let idle = four-is-none _ four in
+    record {
+      told = p .put3 .ensures ∙ simp (seven, two, idle);
+      followed = simp (seven, two, idle, eq-eqb _ _ four);
+    }
+
+-- ---- a block
+
+-- the places where it is told, where its address is lowered, and the test that led there
+abbrev block-told : tie.After-slice-known5 → tie.After-put-block
+block-told c = c .before .before
+
+abbrev block-low : tie.After-words-of → tie.After-aligned
+block-low c = c .before .before
+
+abbrev block-test : tie.After-aligned → tie.Then4
+block-test c = c .before
+
+abbrev block-zeros : tie.Then4 → tie.After-put3
+block-zeros c = zeros (c .before .before .before .before .before)
+
+put-block-requires : tie.Need-put-block-requires
+put-block-requires c κs =
+    let z = block-zeros (block-test (block-low c)) in
+    (z .put3 .ensures, rw (c .words-of .ensures) ((words-between (begin z .args .r .value)) .most))
 
 returns-4 : tie.Need-returns-4
 unfolding beatsBy trailAfter
 returns-4 c =
-    let p = c .before .before .before .before .before in
-    let i = tested p in
+    let p = block-told c in
+    let w = p .before in
+    let t = block-test (block-low w) in
+    let z = block-zeros t in
+    let i = z .before .before in
+    let s = begin z .args in
+    let next = s .trail .next in
+    let seven = ne-eqb _ _ (i .before .before .if1 .left) in
+    let two = lt-leb _ _ (i .if2 .left) in
+    let low = block-low w .aligned .ensures in
+    let words = w .words-of .ensures in
+    record {
+      told =
+          p .put-block .ensures .told ∙ ap₂ (λ (a n : ℕ). beatBytes (blockFrom next a n)) low words
+          ∙ simp (seven, two, t .if4 .taken);
+      followed =
+          ap (λ (n : ℕ). trail (s .trail .front) n) (p .put-block .ensures .goes-on ∙ ap₂ (blockNext next) low words)
+          ∙ simp (seven, two, t .if4 .taken);
+    }
+
+-- ---- no grounds
+
+returns-5 : tie.Need-returns-5
+unfolding beatsBy trailAfter
+returns-5 c =
+    let t = c .before in
+    let d = t .before .before .before in
+    let p = zeros (d .before .before) in
+    let i = p .before .before in
     let seven = ne-eqb _ _ (i .before .before .if1 .left) in
     let two = lt-leb _ _ (i .if2 .left) in
     record {
-      told = p .put3 .ensures ∙ simp (seven, two);
-      followed = c .passed .ensures ∙ simp (seven, two, ne-eqb _ _ (c .before .if3 .left));
+      told = p .put3 .ensures ∙ simp (seven, two, t .if4 .left);
+      followed = c .passed .ensures ∙ simp (seven, two, t .if4 .left, ne-eqb _ _ (d .if3 .left));
     }
 
 pub tell-spec : {M : Type 1} → statement M
@@ -80,5 +144,10 @@ tell-spec =
     (λ c. search needs)
     returns-3
     (λ c κs. search needs)
+    (λ c κs. search needs)
+    put-block-requires
     (λ c. search needs)
-    returns-4)
+    returns-4
+    (λ c κs. search needs)
+    (λ c. search needs)
+    returns-5)

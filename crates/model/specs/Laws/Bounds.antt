@@ -11,10 +11,12 @@ use Rattle.model.specs.Waitcnt.{Waits, nWaits, sWaits, romWaits}
 use Rattle.model.specs.Wait.{nonseqIf, romHalfCycles, ewramCycles, window}
 use Rattle.model.specs.Prefetch.{hit, fetched}
 use Rattle.model.specs.Price.{Beat, BufferBeat, RomBeat, EwramBeat, SramBeat, VideoBeat, FastBeat}
-use Rattle.model.specs.Price.{beatCycles, price, Previous, previous, firstKind, wide, dataBeatsIn, dataBeats, dataCycles}
+use Rattle.model.specs.Price.{beatCycles, price, Previous, previous, accessOf, firstKind, wide}
+use Rattle.model.specs.Price.{dataBeatsIn, dataBeats, dataCycles, blockCycles}
 use Rattle.model.specs.Timing.{internal, codeSize, halfBeat, plainBeat, fetchBeatsIn}
 use Rattle.model.specs.Timing.{fetchBeats, idleIn, cartIdle, priceInsn}
-use Rattle.model.specs.Step.{waitsOf, romHits, hitsIn, codeHits, Timed, timed}
+use Rattle.model.specs.Step.{waitsOf, romHits, hitsIn, codeHits, turnsIn, Timed, timed}
+use Rattle.model.specs.Sheet.{maxWords}
 use Rattle.model.specs.Laws.Choice.{All, either, bit≤1}
 use Rattle.model.specs.declared.Clock.{Clock}
 use Rattle.model.specs.declared.PrefetchBuffer.{PrefetchBuffer}
@@ -31,8 +33,10 @@ use Rattle.model.specs.declared.AccessSize.{AccessSize}
 use Rattle.model.specs.declared.AccessSize.the-variants.{Byte, Half, Word}
 use Rattle.model.specs.declared.IsaState.{IsaState}
 use Rattle.model.specs.declared.IsaState.the-variants.{Thumb, Arm}
+use Rattle.model.specs.declared.Version.{Version}
 use Rattle.model.specs.declared.Step.{Step}
 use Rattle.model.specs.declared.Step.the-variants.{Read, Write, Waitcnt, Idle, Fetch, Restart, Instruction, Pc, Latch}
+use Rattle.model.specs.declared.Step.the-variants.{BlockRead, BlockWrite}
 
 pub record Between (low high n : ℕ) : Type 0 where
   pub least : low ≤ n
@@ -189,9 +193,15 @@ pub idleIn≤6 : (t : Waits) (a : ℕ) (isa : IsaState) (v : Windowed) → idleI
 idleIn≤6 t a isa (In win) = omega arith
 idleIn≤6 t a isa Outside = plain≤6 t a isa
 
-pub cartIdle≤7 : (t : Waits) (isa : IsaState) (a raw : ℕ) → cartIdle t isa a raw ≤ 7
+pub cartIdle≤7 : (t : Waits) (v : Version) (isa : IsaState) (a raw : ℕ) → cartIdle t v isa a raw ≤ 7
 unfolding cartIdle
-cartIdle≤7 t isa a raw = omega (arith, idleIn≤6 t a isa (window a), bit≤1 (internal isa raw))
+cartIdle≤7 t v isa a raw = omega (arith, idleIn≤6 t a isa (window a), bit≤1 (internal v isa raw))
+
+-- ---- a block: each of its words costs what an access does
+
+pub block-between : (w : ℕ) (p : Previous) (a n : ℕ) → Between n (18 * n) (blockCycles w p a n)
+block-between w p a zero = omega arith
+block-between w p a (suc n) = omega (arith, data-between w p Word a, block-between w (accessOf Word a) (further 4 a) n)
 
 -- ---- what a step adds to I, A and D: instructions, data accesses and idle cycles
 
@@ -210,9 +220,30 @@ weight (Waitcnt v) = weighing 0 0 0
 weight (Idle n) = weighing 0 0 n
 weight (Fetch a) = weighing 0 0 0
 weight (Restart a) = weighing 0 0 0
-weight (Instruction isa a op jump) = weighing 1 0 0
+weight (Instruction v isa a op jump) = weighing 1 0 0
 weight (Pc a) = weighing 0 0 0
 weight (Latch v) = weighing 0 0 0
+weight (BlockRead a n) = weighing 0 n 0
+weight (BlockWrite a n) = weighing 0 n 0
+
+-- a block has at least one word
+abbrev pub Worded : Step → Type 0
+Worded (Read z a) = Unit {0}
+Worded (Write z a v) = Unit {0}
+Worded (Waitcnt v) = Unit {0}
+Worded (Idle n) = Unit {0}
+Worded (Fetch a) = Unit {0}
+Worded (Restart a) = Unit {0}
+Worded (Instruction v isa a op jump) = Unit {0}
+Worded (Pc a) = Unit {0}
+Worded (Latch v) = Unit {0}
+Worded (BlockRead a n) = 1 ≤ n
+Worded (BlockWrite a n) = 1 ≤ n
+
+-- and no more than there can be; any other step is short
+pub record Short (x : Step) : Type 0 where
+  pub some : Worded x
+  pub short : turnsIn x ≤ maxWords
 
 -- the least and the most that a weight costs
 abbrev pub least : Weight → ℕ
@@ -244,9 +275,11 @@ step-bounded c (Waitcnt v) = omega arith
 step-bounded c (Idle n) = omega arith
 step-bounded c (Fetch a) = omega (arith, bit≤1 (hit (c .prefetch) a))
 step-bounded c (Restart a) = omega arith
-step-bounded c (Instruction isa a op jump) =
+step-bounded c (Instruction v isa a op jump) =
     let f =
     fetch-between (waitsOf c) (romWaits-small (c .waitcnt)) (c .prefetch) a (nonseqIf (c .«force_next_fetch_n»)) isa (window a) in
-    omega (arith, bit≤1 (internal isa op), hitsIn≤2 (c .prefetch) a isa (window a))
+    omega (arith, bit≤1 (internal v isa op), hitsIn≤2 (c .prefetch) a isa (window a))
 step-bounded c (Pc a) = omega arith
 step-bounded c (Latch v) = omega arith
+step-bounded c (BlockRead a n) = omega (arith, block-between (c .waitcnt) (previous c) a n)
+step-bounded c (BlockWrite a n) = omega (arith, block-between (c .waitcnt) (previous c) a n)

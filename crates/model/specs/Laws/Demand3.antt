@@ -1,6 +1,6 @@
 -- Demand 3, of bytes as lent: every accepted run answers what the definitions have, its total is the sum of the cycles in its
 -- answers and lies within its limits; and two of them whose sheets and first boards are alike, over any memories, agree in
--- answer bytes 4 to 10 of every step, but for the hits of WRITE, and in the total.
+-- answer bytes 4 to 10 of every step, but for the hits of WRITE and BLOCK WRITE, and in the total.
 use mathlib.Core.Path.{_≡_, refl, sym, ap, ap₂, _∙_}
 use mathlib.Core.Logic.{_≢_}
 use mathlib.Core.Bool.{false}
@@ -11,10 +11,11 @@ use native.Mathlib.Nat.{add-zero, add-assoc, mod-eq-of-lt}
 use lib.ListN.{length, getD, take, drop, length-map}
 use lib.Seq.{getD-append-add, getD-take, getD-drop, getD-set-other}
 use lib.Dec.{eqb}
-use Rattle.model.specs.Base.{sum, byteAt, bytes, number}
+use Rattle.model.specs.Base.{if_then_else_, sum, byteAt, bytes, number}
 use Rattle.model.specs.Waitcnt.{prefetchEnable}
+use Rattle.model.specs.Wait.{aligned}
 use Rattle.model.specs.Step.{answer, cyclesIn, cyclesOf}
-use Rattle.model.specs.Sheet.{recordAt, recordsFrom, recordCount, recordsOf, isaState, stepOf, stepsOf}
+use Rattle.model.specs.Sheet.{rulesOf, recordAt, recordsFrom, recordCount, recordsOf, isaState, wordsOf, stepOf, stepsOf}
 use Rattle.model.specs.BoardBytes.{answerLength, clockOf, answerBytes, answersBytes}
 use Rattle.model.specs.Outcome.{Lent, LentBytes, Outcome, mediaOf, firstState, ran, outcomeBy, outcome}
 use Rattle.model.specs.Alike.{AlikeRecords, AlikeSheets, AlikeBoards, stateAt, answerAt, answerStart}
@@ -28,22 +29,25 @@ use Rattle.model.specs.Laws.Times.{Shown, shown, SameTime, SameTimes, pr
 use Rattle.model.specs.Laws.Run.{run-at}
 use Rattle.model.specs.Laws.Limits.{preview-limits, records-length}
 use Rattle.model.specs.Laws.Fits.{AnswerFits, answers-fit, answers-count}
-use Rattle.model.specs.Laws.Refusal.{was-accepted, record-in}
+use Rattle.model.specs.Laws.Refusal.{was-accepted, record-in, accepted-faultless}
 use Rattle.model.specs.Laws.Codec.{number-past, number-fits, flag-byte, OfWidth, block-there}
 use Rattle.model.specs.declared.Clock.{Clock}
 use Rattle.model.specs.declared.Answer.{Answer}
 use Rattle.model.specs.declared.SheetRecord.{SheetRecord}
 use Rattle.model.specs.declared.Verdict.the-variants.{Accepted}
 use Rattle.model.specs.declared.Step.{Step}
-use Rattle.model.specs.declared.Step.the-variants.{Waitcnt, Idle, Instruction, Latch}
+use Rattle.model.specs.declared.Step.the-variants.{Waitcnt, Idle, Instruction, Latch, BlockRead, BlockWrite}
+use Rattle.model.specs.declared.AccessSize.the-variants.{Word}
+use Rattle.model.specs.declared.Version.{Version}
+use Rattle.model.specs.declared.Version.the-variants.{One, Two}
 
 -- ---- alike sheets have steps that take the same time: the values of WRITE and LATCH take none
 
-same-step : (k z f a v u p q : ℕ) → (k ≢ 2 → k ≢ 9 → v ≡ u)
-    → SameTime (stepOf (record { kind = k; size = z; flag = f; «zero_byte» = p; address = a; value = v }))
-    (stepOf (record { kind = k; size = z; flag = f; «zero_byte» = q; address = a; value = u }))
+same-step : (w : Version) (k z f a v u p q : ℕ) → (k ≢ 2 → k ≢ 9 → v ≡ u)
+    → SameTime (stepOf (record { version = w; kind = k; size = z; flag = f; «zero_byte» = p; address = a; value = v }))
+    (stepOf (record { version = w; kind = k; size = z; flag = f; «zero_byte» = q; address = a; value = u }))
 unfolding stepOf
-same-step k z f a v u p q h =
+same-step w k z f a v u p q h =
     choose₂ SameTime (eqb k 1) (λ e c. refl)
     λ e₁. choose₂ SameTime (eqb k 2) (λ e c. refl)
     λ e₂. choose₂ SameTime (eqb k 3)
@@ -52,24 +56,32 @@ same-step k z f a v u p q h =
     λ e₄. choose₂ SameTime (eqb k 5) (λ e c. refl)
     λ e₅. choose₂ SameTime (eqb k 6) (λ e c. refl)
     λ e₆. choose₂ SameTime (eqb k 7)
-    (λ e. by-value (λ (x : ℕ). Instruction (isaState z) a x (eqb f 1)) (h (eqb-ne k 2 e₂) (omega (arith, tests))))
+    (λ e. by-value (λ (x : ℕ). Instruction w (isaState z) a x (eqb f 1)) (h (eqb-ne k 2 e₂) (omega (arith, tests))))
     λ e₇. choose₂ SameTime (eqb k 8) (λ e c. refl)
-    λ e₈ c. refl
+    λ e₈. choose₂ SameTime (eqb k 10)
+    (λ e. by-value (λ (x : ℕ). BlockRead (aligned Word a) (wordsOf x)) (h (eqb-ne k 2 e₂) (omega (arith, tests))))
+    λ e₁₀. choose₂ SameTime (eqb k 11)
+    (λ e. by-value (λ (x : ℕ). BlockWrite (aligned Word a) (wordsOf x)) (h (eqb-ne k 2 e₂) (omega (arith, tests))))
+    λ e₁₁ c. refl
   where
     by-value : (g : ℕ → Step) {x y : ℕ} → x ≡ y → SameTime (g x) (g y)
     by-value g e c = ap (λ (n : ℕ). shown c (g n)) e
 
-alike-step : (r s : SheetRecord) → AlikeRecords r s → SameTime (stepOf r) (stepOf s)
-alike-step r s h c =
-    same-step (r .kind) (r .size) (r .flag) (r .address) (r .value) (s .value) (r .«zero_byte») (s .«zero_byte») (h .value) c
-    ∙ ap₂ (λ (k z : ℕ). of k z (r .flag) (r .address)) (h .kind) (h .size)
-    ∙ ap₂ (λ (f a : ℕ). of (s .kind) (s .size) f a) (h .flag) (h .address)
+-- records of sheets of one version
+alike-step : (r s : SheetRecord) → r .version ≡ s .version → AlikeRecords r s → SameTime (stepOf r) (stepOf s)
+alike-step r s e h c =
+    same-step (r .version) (r .kind) (r .size) (r .flag) (r .address) (r .value) (s .value) (r .«zero_byte») (s .«zero_byte»)
+    (h .value) c
+    ∙ ap₂ (λ (k z : ℕ). of (r .version) k z (r .flag) (r .address)) (h .kind) (h .size)
+    ∙ ap₂ (λ (f a : ℕ). of (r .version) (s .kind) (s .size) f a) (h .flag) (h .address)
+    ∙ ap (λ (w : Version). of w (s .kind) (s .size) (s .flag) (s .address)) e
   where
-    of : ℕ → ℕ → ℕ → ℕ → Shown
-    of k z f a =
+    of : Version → ℕ → ℕ → ℕ → ℕ → Shown
+    of w k z f a =
         shown c
         (stepOf
         (record {
+          version = w;
           kind = k;
           size = z;
           flag = f;
@@ -78,12 +90,13 @@ alike-step r s h c =
           value = s .value;
         }))
 
-alike-steps : (s t : List ℕ) (k n : ℕ) → ((j : ℕ) → j < k + n → AlikeRecords (recordAt s j) (recordAt t j))
+alike-steps : (s t : List ℕ) → rulesOf s ≡ rulesOf t → (k n : ℕ)
+    → ((j : ℕ) → j < k + n → AlikeRecords (recordAt s j) (recordAt t j))
     → SameTimes (map stepOf (recordsFrom s k n)) (map stepOf (recordsFrom t k n))
-unfolding recordsFrom
-alike-steps s t k zero h = tt
-alike-steps s t k (suc n) h =
-    (alike-step (recordAt s k) (recordAt t k) (h k (omega arith)), alike-steps s t (k + 1) n (λ j l. h j (omega arith)))
+unfolding recordsFrom recordAt
+alike-steps s t e k zero h = tt
+alike-steps s t e k (suc n) h =
+    (alike-step (recordAt s k) (recordAt t k) e (h k (omega arith)), alike-steps s t e (k + 1) n (λ j l. h j (omega arith)))
 
 -- ---- alike boards have one clock
 
@@ -103,6 +116,12 @@ same-number n i b c h = same-number-at n i i b c (λ j l. h (i + j) (omega arith
 
 pub alike-count : (s t : List ℕ) → AlikeSheets s t → recordCount s ≡ recordCount t
 alike-count s t h = same-number 2 6 s t (λ j l u. h .header j (omega arith))
+
+-- and so are the versions
+alike-rules : (s t : List ℕ) → AlikeSheets s t → rulesOf s ≡ rulesOf t
+unfolding rulesOf
+alike-rules s t h =
+    ap (λ (v : ℕ). if eqb v 2 then Two else One) (same-number 2 3 s t (λ j l u. h .header j (omega arith)))
 
 module _ (b c : List ℕ) (h : AlikeBoards b c) where
   low : (i : ℕ) → i < 20 → byteAt b i ≡ byteAt c i
@@ -178,11 +197,13 @@ hits-apart x at h = sym (getD-set-other (answerBytes x) 8 at 0 0 h)
 clock-tells : (r : SheetRecord) (at : ℕ) → Compared r at → (x : Answer)
     → byteAt (answerBytes x) at ≡ byteAt (answerBytes (blanked (stepOf r) x)) at
 clock-tells r at c x =
-    by-kind P r (λ h. value-apart x at (c .from)) (λ h. hits-apart x at (λ z. h z refl)) (λ h. refl) (λ h. refl)
-    (λ h. value-apart x at (c .from)) (λ h. refl) (λ h. refl) (λ h. refl) (λ o h. refl) (c .but-landed)
+    by-kind P r (λ h. value-apart x at (c .from)) (λ h. hits-apart x at (λ z. h .0 z refl)) (λ h. refl) (λ h. refl)
+    (λ h. value-apart x at (c .from)) (λ h. refl) (λ h. refl) (λ h. refl) (λ h. value-apart x at (c .from))
+    (λ h. hits-apart x at (λ z. h .1 z refl)) (λ o h. refl) (c .but-landed, c .but-block)
   where
     P : ℕ → Step → Type 0
-    P k y = (at ≡ 8 → k ≢ 2) → byteAt (answerBytes x) at ≡ byteAt (answerBytes (blanked y x)) at
+    P k y =
+        (at ≡ 8 → k ≢ 2) × (at ≡ 8 → k ≢ 11) → byteAt (answerBytes x) at ≡ byteAt (answerBytes (blanked y x)) at
 
 -- the cycles stand in the answers as they are
 cycles-past : (x : Answer) (b : List ℕ) (k n : ℕ) → cyclesFrom (answerBytes x ++ b) (suc k) n ≡ cyclesFrom b k n
@@ -274,7 +295,7 @@ module _ (i : Lent) (o : Outcome) (ok : o ≡ outcome i) (zero-number : o .numbe
             read-back (o .answers) k (answerAt i k) (bytes-are k h)
             (rw (answer-is k h) at (all-fit ((ran i) .answers) (answers-fit i lent accepted) k (omega (arith, answers-count i))));
         summed = sum-stands;
-        limits = rw time-total (preview-limits (clockOf (i .board)) (recordsOf (i .sheet)));
+        limits = rw time-total (preview-limits (clockOf (i .board)) (recordsOf (i .sheet)) (accepted-faultless i accepted));
       }
 
   -- without what only the memories tell it is the preview's
@@ -303,7 +324,8 @@ module _ (i j : Lent) (s : AlikeSheets (i .sheet) (j .sheet)) (b : AlikeBoards (
   steps-alike : SameTimes (stepsOf (i .sheet)) (stepsOf (j .sheet))
   steps-alike =
       rw (← alike-count (i .sheet) (j .sheet) s)
-      (alike-steps (i .sheet) (j .sheet) 0 (recordCount (i .sheet)) (λ k h. s .records k (omega arith)))
+      (alike-steps (i .sheet) (j .sheet) (alike-rules (i .sheet) (j .sheet) s) 0 (recordCount (i .sheet))
+      (λ k h. s .records k (omega arith)))
 
   pub same-grounds : runGrounds i ≡ runGrounds j
   unfolding runGrounds
@@ -343,4 +365,9 @@ demand3 i j o p e f m n s b =
     other-compared : (k at : ℕ) → k < recordCount (i .sheet) → Compared (recordAt (i .sheet) k) at
         → Compared (recordAt (j .sheet) k) at
     other-compared k at h c =
-        record { from = c .from; to = c .to; but-landed = λ e q. c .but-landed e ((s .records k h) .kind ∙ q) }
+        record {
+          from = c .from;
+          to = c .to;
+          but-landed = λ e q. c .but-landed e ((s .records k h) .kind ∙ q);
+          but-block = λ e q. c .but-block e ((s .records k h) .kind ∙ q);
+        }

@@ -10,7 +10,7 @@ use lib.Seq.{drop-at}
 use lib.Dec.{lit<}
 use Rattle.model.specs.Base.{byteAt, Exactly}
 use Rattle.model.specs.Step.{clockAfter}
-use Rattle.model.specs.Sheet.{recordCount, recordsOf, stepOf, stepsOf}
+use Rattle.model.specs.Sheet.{recordAt, recordCount, recordsOf, stepOf, stepsOf}
 use Rattle.model.specs.BoardBytes.{clockOf}
 use Rattle.model.specs.Outcome.{firstRow, mediaOf, firstState, verdict, verdictNumber, outcomeBy, outcome}
 use Rattle.model.specs.Alike.{AlikeSheets, AlikeBoards, stateAt, answerAt}
@@ -23,9 +23,10 @@ use Rattle.model.specs.Laws.Refusal.{by-number, Index, zero-index, Untou
 use Rattle.model.specs.Laws.Second.{Room, AcceptableWith, same-verdict, none-of-second, fault-told}
 use Rattle.model.specs.Laws.Codec.{OfWidth, blocks-length, block-there}
 use Rattle.model.specs.Laws.Times.{clockPast, run-clock}
-use Rattle.model.specs.Laws.Limits.{records-length}
+use Rattle.model.specs.Laws.Limits.{short-step, steps-short, records-length}
+use Rattle.model.specs.Laws.Bounds.{Short}
 use Rattle.model.specs.Laws.Demand3.{step-there, step-is, alike-count, same-grounds, demand3}
-use Rattle.model.specs.Laws.Grounds.{cycles-explained, none-unpriced, few-grounds, named-exactly}
+use Rattle.model.specs.Laws.Grounds.{cycles-explained, none-unpriced, each-worth, few-grounds, grounds-fit, named-exactly}
 use Rattle.model.specs.declared.Ground.{Ground}
 use Rattle.model.specs.declared.Clock.{Clock}
 use Rattle.model.specs.declared.Verdict.{Verdict}
@@ -112,16 +113,16 @@ grounds-index e =
 
 -- ---- the bytes of grounds
 
--- 32 for a step, since it has at most two
+-- 32 for a step that has no more
 pub beat-width : (gs : List Ground) → length gs ≤ groundsLength → OfWidth groundsLength beatBytes gs
 beat-width gs h =
     length-append (map groundByte gs) (replicate (groundsLength - length gs) 0)
     ∙ omega (arith, length-map gs groundByte, length-replicate {A = ℕ} (groundsLength - length gs) 0)
 
-pub all-widths : (c : Clock) (xs : List Step) → All (OfWidth groundsLength beatBytes) (groundsAfter c xs)
+pub all-widths : (c : Clock) (xs : List Step) → All Short xs → All (OfWidth groundsLength beatBytes) (groundsAfter c xs)
 unfolding groundsAfter
-all-widths c [] = tt
-all-widths c (x ∷ xs) = (beat-width (grounds c x) (omega (arith, few-grounds c x)), all-widths (clockAfter c x) xs)
+all-widths c [] s = tt
+all-widths c (x ∷ xs) s = (beat-width (grounds c x) (grounds-fit c x (s .0)), all-widths (clockAfter c x) xs (s .1))
 
 pub grounds-length : (c : Clock) (xs : List Step) → length (groundsAfter c xs) ≡ length xs
 unfolding groundsAfter
@@ -166,7 +167,7 @@ module _ (e : Explaining) (x : Explained) (ok : x ≡ explain e) (zero-number : 
 
   widths : All (OfWidth groundsLength beatBytes) (runGrounds (e .run))
   unfolding runGrounds
-  widths = all-widths (clockOf (e .run .board)) steps
+  widths = all-widths (clockOf (e .run .board)) steps (steps-short (e .run .sheet) 0 n)
 
   bytes-many : length (groundsBytes (runGrounds (e .run))) ≡ groundsStart n
   bytes-many = blocks-length groundsLength beatBytes (runGrounds (e .run)) widths ∙ ap groundsStart as-many
@@ -190,7 +191,9 @@ module _ (e : Explaining) (x : Explained) (ok : x ≡ explain e) (zero-number : 
         cycles = λ k. cycles-explained (clockAt (e .run) k) (stepAt (e .run) k);
         none = λ k. none-unpriced (clockAt (e .run) k) (stepAt (e .run) k);
         named = λ k. named-exactly (clockAt (e .run) k) (stepAt (e .run) k);
+        each = λ k. each-worth (clockAt (e .run) k) (stepAt (e .run) k);
         few = λ k. few-grounds (clockAt (e .run) k) (stepAt (e .run) k);
+        room = λ k. grounds-fit (clockAt (e .run) k) (stepAt (e .run) k) (short-step (recordAt (e .run .sheet) k));
         beyond = ap (drop (groundsStart n)) grounds-are ∙ drop-at (groundsBytes (runGrounds (e .run))) _ _ bytes-many;
       }
 

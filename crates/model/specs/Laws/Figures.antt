@@ -24,6 +24,7 @@ use Rattle.model.specs.Step.{codeClock, halfAt, countStore, run}
 use Rattle.model.specs.declared.Answer.{Answer}
 use Rattle.model.specs.declared.Region.the-variants.{Ewram, Vram}
 use Rattle.model.specs.declared.AccessSize.the-variants.{Byte, Half, Word}
+use Rattle.model.specs.declared.Version.the-variants.{One}
 use Rattle.model.specs.declared.IsaState.the-variants.{Arm, Thumb}
 use Rattle.model.specs.declared.Step.{Step}
 use Rattle.model.specs.declared.Step.the-variants.{Read, Write, Waitcnt, Idle, Restart, Instruction}
@@ -96,12 +97,12 @@ pub record WorkedFigures : Type 0 where
   pub waitcnt-bits : (bare (Waitcnt 0xFFFF ∷ [])) .state .board .clock .waitcnt ≡ 0x5FFF
   pub idle-27 : countsIn (bare (Waitcnt 0x4000 ∷ Restart 0x0800_0100 ∷ Idle 27 ∷ [])) ≡ 0 ∷ 0 ∷ 7 ∷ []
   pub idle-28 : countsIn (bare (Waitcnt 0x4000 ∷ Restart 0x0800_0100 ∷ Idle 28 ∷ [])) ≡ 0 ∷ 0 ∷ 8 ∷ []
-  pub arm-in-block : cyclesIn (bare (Instruction Arm 0x0800_0100 0xE1A0_0000 false ∷ [])) ≡ 6 ∷ []
-  pub arm-at-block : cyclesIn (bare (Instruction Arm 0x0800_0000 0xE1A0_0000 false ∷ [])) ≡ 8 ∷ []
-  pub dearest : cyclesIn (bare (Waitcnt 0x0300 ∷ Instruction Arm 0x0C00_0100 0xE591_0000 false ∷ [])) ≡ 0 ∷ 19 ∷ []
-  pub pop-at-bc : cyclesIn (bare (Instruction Thumb 0x0300_0000 0xBC01 false ∷ [])) ≡ 1 ∷ []
-  pub pop-at-ba : cyclesIn (bare (Instruction Thumb 0x0300_0000 0xBA01 false ∷ [])) ≡ 2 ∷ []
-  pub bx : cyclesIn (bare (Instruction Arm 0x0300_0000 0xE12F_FF1E false ∷ [])) ≡ 2 ∷ []
+  pub arm-in-block : cyclesIn (bare (Instruction One Arm 0x0800_0100 0xE1A0_0000 false ∷ [])) ≡ 6 ∷ []
+  pub arm-at-block : cyclesIn (bare (Instruction One Arm 0x0800_0000 0xE1A0_0000 false ∷ [])) ≡ 8 ∷ []
+  pub dearest : cyclesIn (bare (Waitcnt 0x0300 ∷ Instruction One Arm 0x0C00_0100 0xE591_0000 false ∷ [])) ≡ 0 ∷ 19 ∷ []
+  pub pop-at-bc : cyclesIn (bare (Instruction One Thumb 0x0300_0000 0xBC01 false ∷ [])) ≡ 1 ∷ []
+  pub pop-at-ba : cyclesIn (bare (Instruction One Thumb 0x0300_0000 0xBA01 false ∷ [])) ≡ 2 ∷ []
+  pub bx : cyclesIn (bare (Instruction One Arm 0x0300_0000 0xE12F_FF1E false ∷ [])) ≡ 2 ∷ []
   -- the store is SRAM alone
   pub sram-half : (sram : List ℕ)
       → (from (media 0 0 8192) sram (Write Half 0x0E00_0001 0x1234 ∷ [])) .state .store ≡ set sram 1 0x12

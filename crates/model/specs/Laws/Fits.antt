@@ -18,7 +18,7 @@ use Rattle.model.specs.BoardBytes.{soundPrefetch, soundPrevious, soundBy
 use Rattle.model.specs.Outcome.{Lent, LentBytes, Outcome, mediaOf, firstState, ran, outcome}
 use Rattle.model.specs.Laws.Choice.{All, choose, parts, and-true, bit≤1}
 use Rattle.model.specs.Laws.Previous.{size≤4}
-use Rattle.model.specs.Laws.Bounds.{step-bounded}
+use Rattle.model.specs.Laws.Bounds.{Short, step-bounded}
 use Rattle.model.specs.Laws.Sound.{Stands, SoundClock, clockAfter-sound, fresh-sound}
 use Rattle.model.specs.Laws.SoundTest.{sound-true, true-sound}
 use Rattle.model.specs.Laws.Run.{run-length, run-sound, run-halves}
@@ -26,7 +26,7 @@ use Rattle.model.specs.Laws.Codec.{ClockFits, Fits, number-below, decode
 use Rattle.model.specs.Laws.Codec.{board-length, zero-byte, zero-bytes}
 use Rattle.model.specs.Laws.Codec.{force-byte, filling-byte, first-byte}
 use Rattle.model.specs.Laws.Values.{MediaBytes, Held, SmallLatch, changed-fits, stepped-held}
-use Rattle.model.specs.Laws.Limits.{cycles-fit, records-length}
+use Rattle.model.specs.Laws.Limits.{short-step, cycles-fit, records-length}
 use Rattle.model.specs.Laws.Refusal.{Acceptable, zero-exactly, was-accepted}
 use Rattle.model.specs.declared.Clock.{Clock}
 use Rattle.model.specs.declared.Board.{Board}
@@ -118,6 +118,7 @@ pub record AnswerFits (x : Answer) : Type 0 where
 -- a step whose numbers have 32 bits
 record StepFits (x : Step) : Type 0 where
   latch : SmallLatch x
+  short : Short x
   cycles : (c : Clock) → (timed c x) .cycles ≤ 0xFFFF_FFFF
 
 -- a state that a run can be in
@@ -132,7 +133,7 @@ module _ (m : Media) (b : MediaBytes m) where
       record {
         value = fits .value;
         cycles = h .cycles (s .board .clock);
-        hits = omega (arith, (step-bounded (s .board .clock) x) .hits, fits .few);
+        hits = omega (arith, (step-bounded (s .board .clock) x) .hits, fits .few, h .short .short);
         count = (clockAfter-sound (s .board .clock) x (f .clock)) .buffer .count≤8;
       }
 
@@ -162,7 +163,9 @@ latch-small r h =
     λ e₅. choose SmallLatch (eqb (r .kind) 6) (λ e v y. no cc)
     λ e₆. choose SmallLatch (eqb (r .kind) 7) (λ e v y. no cc)
     λ e₇. choose SmallLatch (eqb (r .kind) 8) (λ e v y. no cc)
-    λ e₈ v y. let same : r .value ≡ v = cc in rw (← same) h
+    λ e₈. choose SmallLatch (eqb (r .kind) 10) (λ e v y. no cc)
+    λ e₁₀. choose SmallLatch (eqb (r .kind) 11) (λ e v y. no cc)
+    λ e₁₁ v y. let same : r .value ≡ v = cc in rw (← same) h
   where
     no : {A : Type 0} → _≡_ {A = ℕ} 0 1 → A
     no z = absurd (omega arith)
@@ -171,7 +174,11 @@ record-fits : (s : List ℕ) (k : ℕ) → AllBytes s → StepFits (stepOf (reco
 unfolding recordAt
 record-fits s k h =
     let small = number-below 4 (recordStart k + 8) s h in
-    record { latch = latch-small (recordAt s k) small; cycles = λ c. cycles-fit c (recordAt s k) (omega arith) }
+    record {
+      latch = latch-small (recordAt s k) small;
+      short = short-step (recordAt s k);
+      cycles = λ c. cycles-fit c (recordAt s k) (omega arith);
+    }
 
 records-fit : (s : List ℕ) (k n : ℕ) → AllBytes s → All StepFits (map stepOf (recordsFrom s k n))
 unfolding recordsFrom

@@ -1,12 +1,12 @@
 -- The grounds of a step (W-206): a byte says which ground it is; each is named exactly when its condition decides the beat; their
--- cycles and the internal cycle make the step's cycles; and a step has at most two.
+-- cycles and the internal cycle make the step's cycles; and an access or a fetch has at most two, so that 32 bytes hold a step's.
 use mathlib.Core.Path.{_≡_, refl, sym, ap, ap₂, _∙_}
 use mathlib.Core.Logic.{_≢_}
 use mathlib.Core.Bool.{Bool, true, false, _&&_, true≢false, false≢true}
-use mathlib.Core.List.{List, [], map}
-use Prim.Native.Nat.{ℕ, zero, suc, _+_, _≤_}
+use mathlib.Core.List.{List, [], _∷_, _++_, map}
+use Prim.Native.Nat.{ℕ, zero, suc, _+_, _-_, _*_, _≤_, _<_}
 use native.Mathlib.Omega.{arith}
-use lib.ListN.{length}
+use lib.ListN.{length, length-append, length-map}
 use lib.Dec.{eqb, ltb}
 use borrow.Author.Tests.{eqb-true, eq-eqb}
 use Rattle.model.specs.Base.{if_then_else_, bit, same, sum, further, Exactly}
@@ -15,15 +15,18 @@ use Rattle.model.specs.Waitcnt.{Waits, romWaits, sramWaits}
 use Rattle.model.specs.Wait.{aligned, nonseqIf, window, forceNonseq, kindAt, romHalfCycles}
 use Rattle.model.specs.Prefetch.{hit}
 use Rattle.model.specs.Price.{Beat, RomBeat, EwramBeat, VideoBeat, beatCycles, price}
-use Rattle.model.specs.Price.{Previous, previous, kindAfter, wide, Bus, OnEwram, OnVideo, OnRom, OnSram, OnFast, busOf}
-use Rattle.model.specs.Price.{dataBeatsOn, dataBeats, dataCycles}
+use Rattle.model.specs.Price.{Previous, previous, accessOf, kindAfter, wide}
+use Rattle.model.specs.Price.{Bus, OnEwram, OnVideo, OnRom, OnSram, OnFast, busOf}
+use Rattle.model.specs.Price.{dataBeatsOn, dataBeats, dataCycles, blockCycles}
 use Rattle.model.specs.Timing.{internal, codeSize, halfBeat, plainBeat, fetchBeatsIn, fetchBeats, priceInsn}
-use Rattle.model.specs.Step.{timed}
+use Rattle.model.specs.Step.{turnsIn, timed}
 use Rattle.model.specs.Grounds.{groundByte, groundCycles, halfGround, plainGround, fetchGroundsIn, fetchGrounds}
-use Rattle.model.specs.Grounds.{kindGround, firstGround, dataGroundsOn, dataGrounds, grounds, worth, internalCycle}
+use Rattle.model.specs.Grounds.{kindGround, firstGround, dataGroundsOn, dataGrounds, blockGrounds, grounds}
+use Rattle.model.specs.Grounds.{dataWorths, blockWorths, worths, internalCycle, wordBeats, blockCondition, groundsLength}
 use Rattle.model.specs.Grounds.{isPriced, sameGround, halfCondition, firstCondition, plainCondition, wideCondition}
 use Rattle.model.specs.Grounds.{fetchConditionIn, dataConditionOn, dataCondition, condition, beatAt, beatGround}
-use Rattle.model.specs.Laws.Choice.{choose₂, either, parts}
+use Rattle.model.specs.Laws.Choice.{choose, choose₂, either, tests, parts}
+use Rattle.model.specs.Laws.Bounds.{Short}
 use Rattle.model.specs.declared.Ground.{Ground}
 use Rattle.model.specs.declared.Ground.the-variants.{BufferHit, Sequential, ByFlag, ByBlock, ByAddress}
 use Rattle.model.specs.declared.Ground.the-variants.{EwramBus, SramBus, VideoBus, Fast}
@@ -43,6 +46,7 @@ use Rattle.model.specs.declared.IsaState.{IsaState}
 use Rattle.model.specs.declared.IsaState.the-variants.{Arm, Thumb}
 use Rattle.model.specs.declared.Step.{Step}
 use Rattle.model.specs.declared.Step.the-variants.{Read, Write, Waitcnt, Idle, Fetch, Restart, Instruction, Pc, Latch}
+use Rattle.model.specs.declared.Step.the-variants.{BlockRead, BlockWrite}
 
 -- ---- a byte says which ground it is
 
@@ -153,6 +157,42 @@ data-test p z a j g =
     bus-test z (firstGround p n) (firstCondition (forceNonseq n) (kindAfter p n)) (first-test (forceNonseq n) (kindAfter p n)) j g
     (busOf (decode a))
 
+-- a beat of two lists of grounds, one behind the other: of the first, or of the second
+beat-first : (gs hs : List Ground) (j : ℕ) → j < length gs → beatAt (gs ++ hs) j ≡ beatAt gs j
+beat-first [] hs j h = absurd (omega arith)
+beat-first (g ∷ gs) hs zero h = refl
+beat-first (g ∷ gs) hs (suc j) h = beat-first gs hs j (omega arith)
+
+beat-behind : (gs hs : List Ground) (j n : ℕ) → length gs ≤ j → j - length gs ≡ n → beatAt (gs ++ hs) j ≡ beatAt hs n
+beat-behind [] hs j n h e = ap (beatAt hs) (omega arith)
+beat-behind (g ∷ gs) hs zero n h e = absurd (omega arith)
+beat-behind (g ∷ gs) hs (suc j) n h e = beat-behind gs hs j n (omega arith) (omega arith)
+
+-- a word has as many beats as its bus says
+bus-beats : (g : Ground) (b : Bus) → length (dataGroundsOn Word g b) ≡ wordBeats b
+bus-beats g OnEwram = refl
+bus-beats g OnVideo = refl
+bus-beats g (OnRom win) = refl
+bus-beats g OnSram = refl
+bus-beats g OnFast = refl
+
+pub word-beats : (p : Previous) (a : ℕ) → length (dataGrounds p Word a) ≡ wordBeats (busOf (decode a))
+unfolding dataGrounds
+word-beats p a = bus-beats (firstGround p (aligned Word a)) (busOf (decode a))
+
+block-test : (p : Previous) (a n j : ℕ) (g : Ground) → isBeat (beatAt (blockGrounds p a n) j) g ≡ blockCondition p a n j g
+block-test p a zero j g = refl
+block-test p a (suc n) j g =
+    let beats = wordBeats (busOf (decode a)) in
+    let word = dataGrounds p Word a in
+    let rest = blockGrounds (accessOf Word a) (further 4 a) n in
+    let many : length word ≡ beats = word-beats p a in
+    choose (λ (t : Bool). isBeat (beatAt (word ++ rest) j) g ≡ t) (ltb j beats)
+    (λ e. ap (λ (b : BeatGround). isBeat b g) (beat-first word rest j (omega (arith, tests, many))) ∙ data-test p Word a j g)
+    (λ e.
+    ap (λ (b : BeatGround). isBeat b g) (beat-behind word rest j (j - beats) (omega (arith, tests, many)) (omega (arith, many)))
+    ∙ block-test (accessOf Word a) (further 4 a) n (j - beats) g)
+
 fetch-test : (hits : ℕ → Bool) (forced : Bool) (isa : IsaState) (a j : ℕ) (g : Ground) (v : Windowed)
     → isBeat (beatAt (fetchGroundsIn hits forced a isa v) j) g ≡ fetchConditionIn hits forced isa a j g v
 unfolding halfGround
@@ -171,9 +211,11 @@ step-test c (Waitcnt v) j g = refl
 step-test c (Idle n) j g = refl
 step-test c (Fetch a) j g = refl
 step-test c (Restart a) j g = refl
-step-test c (Instruction isa a op jump) j g = fetch-test (hit (c .prefetch)) (c .«force_next_fetch_n») isa a j g (window a)
+step-test c (Instruction v isa a op jump) j g = fetch-test (hit (c .prefetch)) (c .«force_next_fetch_n») isa a j g (window a)
 step-test c (Pc a) j g = refl
 step-test c (Latch v) j g = refl
+step-test c (BlockRead a n) j g = block-test (previous c) a n j g
+step-test c (BlockWrite a n) j g = block-test (previous c) a n j g
 
 -- a beat has a ground exactly when the test finds it
 beat-found : (b : BeatGround) (g : Ground) → b ≡ By g → isBeat b g ≡ true
@@ -263,6 +305,17 @@ data-worth w p z a =
     ∙ ap (λ (v : Windowed). sum (map (groundCycles w v Half) (dataGroundsOn z (firstGround p n) (busOf (decode a)))))
     (sym (bus-window a))
 
+-- and its words make a block's
+sum-append : (xs ys : List ℕ) → sum (xs ++ ys) ≡ sum xs + sum ys
+sum-append [] ys = omega arith
+sum-append (x ∷ xs) ys = ap (λ (n : ℕ). x + n) (sum-append xs ys) ∙ omega arith
+
+block-worth : (w : ℕ) (p : Previous) (a n : ℕ) → blockCycles w p a n ≡ sum (blockWorths w p a n)
+block-worth w p a zero = refl
+block-worth w p a (suc n) =
+    ap₂ (λ (x y : ℕ). x + y) (data-worth w p Word a) (block-worth w (accessOf Word a) (further 4 a) n)
+    ∙ sym (sum-append (dataWorths w p Word a) (blockWorths w (accessOf Word a) (further 4 a) n))
+
 -- ---- a fetch
 
 flag-worth : (w : ℕ) (z : AccessSize) (win : RomWindow) (forced : Bool)
@@ -303,7 +356,7 @@ fetch-worth w p forced isa a = fetch-worth-in w p forced isa a (window a)
 
 -- the cycles of the grounds and the internal cycle make the step's cycles
 pub cycles-explained : (c : Clock) (x : Step) → isPriced x ≡ true
-    → (timed c x) .cycles ≡ sum (map (worth c x) (grounds c x)) + internalCycle x
+    → (timed c x) .cycles ≡ sum (worths c x) + internalCycle x
 unfolding priceInsn
 cycles-explained c (Read z a) h = data-worth (c .waitcnt) (previous c) z a ∙ omega arith
 cycles-explained c (Write z a v) h = data-worth (c .waitcnt) (previous c) z a ∙ omega arith
@@ -311,10 +364,12 @@ cycles-explained c (Waitcnt v) h = absurd (false≢true h)
 cycles-explained c (Idle n) h = absurd (false≢true h)
 cycles-explained c (Fetch a) h = absurd (false≢true h)
 cycles-explained c (Restart a) h = absurd (false≢true h)
-cycles-explained c (Instruction isa a op jump) h =
-    ap (λ (n : ℕ). n + bit (internal isa op)) (fetch-worth (c .waitcnt) (c .prefetch) (c .«force_next_fetch_n») isa a)
+cycles-explained c (Instruction v isa a op jump) h =
+    ap (λ (n : ℕ). n + bit (internal v isa op)) (fetch-worth (c .waitcnt) (c .prefetch) (c .«force_next_fetch_n») isa a)
 cycles-explained c (Pc a) h = absurd (false≢true h)
 cycles-explained c (Latch v) h = absurd (false≢true h)
+cycles-explained c (BlockRead a n) h = block-worth (c .waitcnt) (previous c) a n ∙ omega arith
+cycles-explained c (BlockWrite a n) h = block-worth (c .waitcnt) (previous c) a n ∙ omega arith
 
 -- other kinds have none
 pub none-unpriced : (c : Clock) (x : Step) → isPriced x ≡ false → grounds c x ≡ []
@@ -324,11 +379,37 @@ none-unpriced c (Waitcnt v) h = refl
 none-unpriced c (Idle n) h = refl
 none-unpriced c (Fetch a) h = refl
 none-unpriced c (Restart a) h = refl
-none-unpriced c (Instruction isa a op jump) h = absurd (true≢false h)
+none-unpriced c (Instruction v isa a op jump) h = absurd (true≢false h)
 none-unpriced c (Pc a) h = refl
 none-unpriced c (Latch v) h = refl
+none-unpriced c (BlockRead a n) h = absurd (true≢false h)
+none-unpriced c (BlockWrite a n) h = absurd (true≢false h)
 
--- ---- at most two
+-- ---- as many as there are numbers of cycles
+
+block-each : (w : ℕ) (p : Previous) (a n : ℕ) → length (blockWorths w p a n) ≡ length (blockGrounds p a n)
+block-each w p a zero = refl
+block-each w p a (suc n) =
+    let next = accessOf Word a in
+    length-append (dataWorths w p Word a) (blockWorths w next (further 4 a) n)
+    ∙ ap₂ (λ (x y : ℕ). x + y) (length-map (dataGrounds p Word a) _) (block-each w next (further 4 a) n)
+    ∙ sym (length-append (dataGrounds p Word a) (blockGrounds next (further 4 a) n))
+
+pub each-worth : (c : Clock) (x : Step) → length (worths c x) ≡ length (grounds c x)
+each-worth c (Read z a) = length-map (dataGrounds (previous c) z a) _
+each-worth c (Write z a v) = length-map (dataGrounds (previous c) z a) _
+each-worth c (Waitcnt v) = refl
+each-worth c (Idle n) = refl
+each-worth c (Fetch a) = refl
+each-worth c (Restart a) = refl
+each-worth c (Instruction v isa a op jump) =
+    length-map (fetchGrounds (hit (c .prefetch)) (c .«force_next_fetch_n») isa a) _
+each-worth c (Pc a) = refl
+each-worth c (Latch v) = refl
+each-worth c (BlockRead a n) = block-each (c .waitcnt) (previous c) a n
+each-worth c (BlockWrite a n) = block-each (c .waitcnt) (previous c) a n
+
+-- ---- at most two an access or a fetch
 
 abbrev Few : List Ground → Type 0
 Few gs = length gs ≤ 2
@@ -358,13 +439,30 @@ fetch-few : (hits : ℕ → Bool) (forced : Bool) (isa : IsaState) (a : ℕ) →
 unfolding fetchGrounds
 fetch-few hits forced isa a = fetch-few-in hits forced a isa (window a)
 
-pub few-grounds : (c : Clock) (x : Step) → length (grounds c x) ≤ 2
+pub block-few : (p : Previous) (a n : ℕ) → length (blockGrounds p a n) ≤ 2 * n
+block-few p a zero = omega arith
+block-few p a (suc n) =
+    let next = accessOf Word a in
+    omega (
+      arith,
+      length-append (dataGrounds p Word a) (blockGrounds next (further 4 a) n),
+      data-few p Word a,
+      block-few next (further 4 a) n,
+    )
+
+pub few-grounds : (c : Clock) (x : Step) → length (grounds c x) ≤ 2 * turnsIn x
 few-grounds c (Read z a) = data-few (previous c) z a
 few-grounds c (Write z a v) = data-few (previous c) z a
 few-grounds c (Waitcnt v) = omega arith
 few-grounds c (Idle n) = omega arith
 few-grounds c (Fetch a) = omega arith
 few-grounds c (Restart a) = omega arith
-few-grounds c (Instruction isa a op jump) = fetch-few (hit (c .prefetch)) (c .«force_next_fetch_n») isa a
+few-grounds c (Instruction v isa a op jump) = fetch-few (hit (c .prefetch)) (c .«force_next_fetch_n») isa a
 few-grounds c (Pc a) = omega arith
 few-grounds c (Latch v) = omega arith
+few-grounds c (BlockRead a n) = block-few (previous c) a n
+few-grounds c (BlockWrite a n) = block-few (previous c) a n
+
+-- so 32 bytes hold those of a short step
+pub grounds-fit : (c : Clock) (x : Step) → Short x → length (grounds c x) ≤ groundsLength
+grounds-fit c x s = omega (arith, few-grounds c x, s .short)

@@ -12,17 +12,18 @@ use lib.ListN.{length, getD, set, length-append, length-set, length-map}
 use lib.Seq.{getD-set-same}
 use lib.Dec.{ltb}
 use borrow.Author.Tests.{ltb-true, ltb-false}
-use Rattle.model.specs.Base.{if_then_else_, bit, lowered, byteOf}
+use Rattle.model.specs.Base.{if_then_else_, bit, further, lowered, byteOf}
 use Rattle.model.specs.Wait.{sizeBytes}
 use Rattle.model.specs.Video.{fills}
 use Rattle.model.specs.Memory.{lengthsSum, target, isSram}
 use Rattle.model.specs.Store.{Put, landed, put, putBytes, modeOf, videoPuts, putsAt, puts}
-use Rattle.model.specs.Step.{Media, State, timed, changed, answer}
+use Rattle.model.specs.Step.{Media, State, timed, stores, blockStores, changed, answer}
 use Rattle.model.specs.Laws.Choice.{All, choose, choose₂, by-test, bit≤1}
 use Rattle.model.specs.Laws.Stores.{Names, unnamed-stays, putBytes-two}
 use Rattle.model.specs.Laws.Places.{Lies, target-lies}
 use Rattle.model.specs.declared.AccessSize.{AccessSize}
 use Rattle.model.specs.declared.AccessSize.the-variants.{Byte, Half, Word}
+use Rattle.model.specs.declared.Contents.{Contents}
 use Rattle.model.specs.declared.Lengths.{Lengths}
 use Rattle.model.specs.declared.Part.{Part}
 use Rattle.model.specs.declared.VideoMemory.{VideoMemory}
@@ -186,6 +187,19 @@ sram-one l mode z a v = by-target (target l a)
     by-target (Video m p i) e = absurd (false≢true e)
     by-target (Sram p i) e = put-few p i (byteOf (a % sizeBytes z) v)
 
+-- a block lands four bytes a word at most, each a byte of the store
+pub block-land : (l : Lengths) (d : Contents) (s : List ℕ) (a n : ℕ) → length ((blockStores l d s a n) .puts) ≤ 4 * n
+block-land l d s a zero = omega arith
+block-land l d s a (suc n) =
+    let word = stores l d s Word a 0 in
+    let rest = blockStores l (word .contents) (landed s (word .puts)) (further 4 a) n in
+    omega (
+      arith,
+      length-append (word .puts) (rest .puts),
+      four-land l (modeOf l s) Word a 0,
+      block-land l (word .contents) (landed s (word .puts)) (further 4 a) n,
+    )
+
 -- ---- none leaves the store as it was
 
 pub none-lands : (s : List ℕ) (ps : List Put) → length ps ≡ 0 → landed s ps ≡ s
@@ -258,6 +272,19 @@ written-at k mode z a v (Sram p i) h =
 pub written : (l : Lengths) (mode : ℕ) (z : AccessSize) (a v : ℕ) → Written (lengthsSum l) (puts l mode z a v)
 unfolding puts
 written l mode z a v = written-at (lengthsSum l) mode z a v (target l a) (target-lies l a)
+
+own-append : (k : ℕ) (ps qs : List Put) → All (λ (p : Put). p .place < k) ps → All (λ (p : Put). p .place < k) qs
+    → All (λ (p : Put). p .place < k) (ps ++ qs)
+own-append k [] qs f g = g
+own-append k (p ∷ ps) qs f g = (f .0, own-append k ps qs (f .1) g)
+
+pub block-own : (l : Lengths) (d : Contents) (s : List ℕ) (a n : ℕ)
+    → All (λ (p : Put). p .place < lengthsSum l) ((blockStores l d s a n) .puts)
+block-own l d s a zero = tt
+block-own l d s a (suc n) =
+    let word = stores l d s Word a 0 in
+    own-append (lengthsSum l) (word .puts) _ ((written l (modeOf l s) Word a 0) .own)
+    (block-own l (word .contents) (landed s (word .puts)) (further 4 a) n)
 
 -- ---- the hits byte
 

@@ -25,7 +25,7 @@ use Rattle.model.specs.Laws.Times.{blanked, eachStep, run-blanked, run-t
 use Rattle.model.specs.Laws.Limits.{preview-limits, records-length}
 use Rattle.model.specs.Laws.Rows.{TableOf, table-of, Rising, left-out}
 use Rattle.model.specs.Laws.Rows.{refused-number, zero-accepted}
-use Rattle.model.specs.Laws.Refusal.{Index, index, by-number, table, seven-refusals}
+use Rattle.model.specs.Laws.Refusal.{Index, index, by-number, table, accepted-faultless, seven-refusals}
 use Rattle.model.specs.Laws.Fits.{answers-count}
 use Rattle.model.specs.Laws.Demand3.{same-preview}
 use Rattle.model.specs.declared.Answer.{Answer}
@@ -55,7 +55,7 @@ zeroed-answer : (r : SheetRecord) (y : Answer) → zeroed (r .kind) (answerBytes
 unfolding zeroed
 zeroed-answer r y =
     by-kind (λ (k : ℕ) (x : Step). zeroed k (answerBytes y) ≡ answerBytes (blanked x y)) r refl refl refl refl refl refl refl refl
-    (λ o. rw (o .read, o .write, o .fetch))
+    refl refl (λ o. rw (o .read, o .write, o .fetch, o .block-read, o .block-write))
 
 -- ---- a preview is the run, but for the zeros
 
@@ -189,7 +189,10 @@ accepted-preview q h = ap (previewBy q) (zero-accepted (previewVerdict q) (sym (
 -- its total lies within the limits of demand 3
 pub total-limits : (q : Asked) → (preview q) .number ≡ 0 → Limits (recordsOf (q .sheet)) ((preview q) .total)
 unfolding previewAnswers
-total-limits q h = rw (accepted-preview q h) (preview-limits (clockOf (q .board)) (recordsOf (q .sheet)))
+total-limits q h =
+    let ok = sym (ap (λ (p : Previewed). p .number) (bare-run q)) ∙ h in
+    rw (accepted-preview q h)
+    (preview-limits (clockOf (q .board)) (recordsOf (q .sheet)) (accepted-faultless (bare q) ok))
 
 -- two accepted ones whose sheets and boards are alike have the same total and the same answers
 pub same-previews : (q r : Asked) → (preview q) .number ≡ 0 → (preview r) .number ≡ 0

@@ -4,7 +4,7 @@ use mathlib.Core.Path.{_≡_, refl, sym, ap, ap₂, _∙_}
 use mathlib.Core.Logic.{_≢_}
 use mathlib.Core.Bool.{Bool, true, false, _&&_, _||_, true≢false}
 use mathlib.Core.List.{List, [], _∷_}
-use Prim.Native.Nat.{ℕ, _+_, _*_, _/_, _%_, _^_, _≤_, _<_}
+use Prim.Native.Nat.{ℕ, zero, suc, _+_, _*_, _/_, _%_, _^_, _≤_, _<_}
 use native.Mathlib.Omega.{arith}
 use native.Mathlib.Nat.{mod-eq-of-lt}
 use lib.ListN.{getD}
@@ -16,7 +16,7 @@ use Rattle.model.specs.Waitcnt.{Waits, romWaits, sramWaits}
 use Rattle.model.specs.Wait.{sizeBytes, accessSize, aligned, windowAt, window, inWindow}
 use Rattle.model.specs.Wait.{forceNonseq, kindAt, classifyAccess, romHalfCycles}
 use Rattle.model.specs.Price.{price, Previous, previously, previous, accessOf, noAccess, kindAfter, firstKind}
-use Rattle.model.specs.Price.{romAccess, dataBeatsIn, dataBeats, dataCycles}
+use Rattle.model.specs.Price.{romAccess, dataBeatsIn, dataBeats, dataCycles, blockPrevious}
 use Rattle.model.specs.Step.{waitsOf, setWaitcnt, codeClock, timed, clockAfter}
 use Rattle.model.specs.BoardBytes.{soundPrevious}
 use Rattle.model.specs.Laws.Choice.{choose, choose₂, either, by-test, if-true, if-false, never, tests, eqb-ne}
@@ -38,6 +38,7 @@ use Rattle.model.specs.declared.AccessSize.the-variants.{Byte, Half, Wor
 use Rattle.model.specs.declared.Clock.{Clock}
 use Rattle.model.specs.declared.Step.{Step}
 use Rattle.model.specs.declared.Step.the-variants.{Read, Write, Waitcnt, Idle, Fetch, Restart, Instruction, Pc, Latch}
+use Rattle.model.specs.declared.Step.the-variants.{BlockRead, BlockWrite}
 
 -- ---- soundness
 
@@ -59,6 +60,11 @@ multiple-tested Word n h = eq-eqb (n % 4) 0 h
 
 pub access-sound : (z : AccessSize) (a : ℕ) → SoundPrevious (accessOf z a)
 access-sound z a = record { small = aligned-small z a; tested = multiple-tested z (aligned z a) (aligned-multiple z a) }
+
+-- behind a block the previous access is one of its words, or the one before it
+pub block-sound : (p : Previous) (a n : ℕ) → SoundPrevious p → SoundPrevious (blockPrevious p a n)
+block-sound p a zero s = s
+block-sound p a (suc n) s = block-sound (accessOf Word a) (further 4 a) n (access-sound Word a)
 
 -- what the test says of an access that is there: a size, and a multiple of it
 pub record There (p : Previous) : Type 0 where
@@ -334,7 +340,7 @@ two-words c m n a d win e behind block first =
 
 -- ---- the previous access after a step
 
--- READ and WRITE set it; IDLE, PC and LATCH keep it; the others clear it
+-- READ, WRITE and the words of a block set it; IDLE, PC and LATCH keep it; the others clear it
 abbrev pub previousAfter : Previous → Step → Previous
 previousAfter p (Read z a) = accessOf z a
 previousAfter p (Write z a v) = accessOf z a
@@ -342,9 +348,11 @@ previousAfter p (Waitcnt v) = noAccess
 previousAfter p (Idle n) = p
 previousAfter p (Fetch a) = noAccess
 previousAfter p (Restart a) = noAccess
-previousAfter p (Instruction isa a op jump) = noAccess
+previousAfter p (Instruction v isa a op jump) = noAccess
 previousAfter p (Pc a) = p
 previousAfter p (Latch v) = p
+previousAfter p (BlockRead a n) = blockPrevious p a n
+previousAfter p (BlockWrite a n) = blockPrevious p a n
 
 pub previous-after : (c : Clock) (x : Step) → previous (clockAfter c x) ≡ previousAfter (previous c) x
 unfolding setWaitcnt codeClock
@@ -354,6 +362,8 @@ previous-after c (Waitcnt v) = refl
 previous-after c (Idle n) = refl
 previous-after c (Fetch a) = refl
 previous-after c (Restart a) = refl
-previous-after c (Instruction isa a op jump) = refl
+previous-after c (Instruction v isa a op jump) = refl
 previous-after c (Pc a) = refl
 previous-after c (Latch v) = refl
+previous-after c (BlockRead a n) = refl
+previous-after c (BlockWrite a n) = refl

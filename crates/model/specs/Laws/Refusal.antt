@@ -10,13 +10,13 @@ use lib.ListN.{length, getD}
 use lib.Dec.{eqb, ltb, lit<}
 use borrow.Author.Tests.{not-true, not-false, le-ltb, ltb-true, ltb-false}
 use Rattle.model.specs.Base.{Exactly}
-use Rattle.model.specs.Sheet.{sheetVersion, isMarked, versionOf, isShaped, recordCount}
+use Rattle.model.specs.Sheet.{latestVersion, knows, isMarked, versionOf, isShaped, recordCount}
 use Rattle.model.specs.Sheet.{recordAt, recordsFrom, recordsOf, faulty, firstOf}
 use Rattle.model.specs.BoardBytes.{answerLength, sound}
 use Rattle.model.specs.Outcome.{Lent, Outcome, sizesFit, faultIndex, rows, verdict}
 use Rattle.model.specs.Outcome.{verdictNumber, refusalIndex, outcomeBy, outcome}
-use Rattle.model.specs.Laws.Choice.{choose, by-test}
-use Rattle.model.specs.Laws.Limits.{records-length}
+use Rattle.model.specs.Laws.Choice.{All, choose, by-test}
+use Rattle.model.specs.Laws.Limits.{Faultless, all-faultless, records-length}
 use Rattle.model.specs.Laws.Rows.{Decides, NoneHolds, Rising, decided, undecided}
 use Rattle.model.specs.Laws.Rows.{at-most, decides-refusal, none-accepts, zero-accepted}
 use Rattle.model.specs.declared.Refusal.{Refusal}
@@ -202,7 +202,7 @@ index i =
 -- no condition of the table holds
 pub record Acceptable (i : Lent) : Type 0 where
   pub marked : isMarked (i .sheet) ≡ true
-  pub version : eqb (versionOf (i .sheet)) sheetVersion ≡ true
+  pub version : knows latestVersion (versionOf (i .sheet)) ≡ true
   pub shaped : isShaped (i .sheet) ≡ true
   pub lengths : sizesFit (i .lengths) (length (i .store)) (length (i .bios)) (length (i .rom)) ≡ true
   pub board : sound (i .board) ≡ true
@@ -242,6 +242,12 @@ accepted-acceptable i e = none-acceptable i ((undecided (rows i)) .0 (ap verdict
 
 pub zero-exactly : (i : Lent) → Exactly ((outcome i) .number ≡ 0) (Acceptable i)
 zero-exactly i = (λ h. none-acceptable i ((table i) .none .0 h), λ a. (table i) .none .1 (acceptable-none i a))
+
+-- its records have no fault, as a list
+pub accepted-faultless : (i : Lent) → (outcome i) .number ≡ 0 → All Faultless (recordsOf (i .sheet))
+accepted-faultless i h =
+    let a : Acceptable i = (zero-exactly i) .0 h in
+    all-faultless (i .sheet) 0 (recordCount (i .sheet)) (λ k l. a .records k (omega arith))
 
 -- ---- a refused run
 

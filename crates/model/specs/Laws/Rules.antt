@@ -23,8 +23,10 @@ use Rattle.model.specs.declared.Windowed.{Windowed}
 use Rattle.model.specs.declared.Windowed.the-variants.{In, Outside}
 use Rattle.model.specs.declared.AccessKind.the-variants.{Nonseq}
 use Rattle.model.specs.declared.IsaState.{IsaState}
+use Rattle.model.specs.declared.Version.{Version}
 use Rattle.model.specs.declared.Step.{Step}
 use Rattle.model.specs.declared.Step.the-variants.{Read, Write, Waitcnt, Idle, Fetch, Restart, Instruction, Pc, Latch}
+use Rattle.model.specs.declared.Step.the-variants.{BlockRead, BlockWrite}
 
 -- ---- WAITCNT
 
@@ -176,15 +178,15 @@ full-stays t n p f h =
 -- ---- the force flag
 
 -- every INSTRUCTION sets it
-pub force-set : (c : Clock) (isa : IsaState) (a op : ℕ) (jump : Bool)
-    → (clockAfter c (Instruction isa a op jump)) .«force_next_fetch_n»
-    ≡ (not (c .prefetch .enabled) && inWindow a && internal isa op && not jump)
+pub force-set : (c : Clock) (v : Version) (isa : IsaState) (a op : ℕ) (jump : Bool)
+    → (clockAfter c (Instruction v isa a op jump)) .«force_next_fetch_n»
+    ≡ (not (c .prefetch .enabled) && inWindow a && internal v isa op && not jump)
 unfolding codeClock priceInsn disableBug
-force-set c isa a op jump = refl
+force-set c v isa a op jump = refl
 
 -- and no other step moves it
 abbrev pub Other : Step → Type 0
-Other x = (isa : IsaState) (a op : ℕ) (jump : Bool) → x ≢ Instruction isa a op jump
+Other x = (v : Version) (isa : IsaState) (a op : ℕ) (jump : Bool) → x ≢ Instruction v isa a op jump
 
 pub force-kept : (c : Clock) (x : Step) → Other x → (clockAfter c x) .«force_next_fetch_n» ≡ c .«force_next_fetch_n»
 unfolding setWaitcnt
@@ -194,6 +196,8 @@ force-kept c (Waitcnt v) o = refl
 force-kept c (Idle n) o = refl
 force-kept c (Fetch a) o = refl
 force-kept c (Restart a) o = refl
-force-kept c (Instruction isa a op jump) o = absurd (o isa a op jump refl)
+force-kept c (Instruction v isa a op jump) o = absurd (o v isa a op jump refl)
 force-kept c (Pc a) o = refl
 force-kept c (Latch v) o = refl
+force-kept c (BlockRead a n) o = refl
+force-kept c (BlockWrite a n) o = refl

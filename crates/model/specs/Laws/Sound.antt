@@ -16,7 +16,7 @@ use Rattle.model.specs.BoardBytes.{freshBoard}
 use Rattle.model.specs.Step.{codeClock, Timed, timed, idled, clockAfter}
 use Rattle.model.specs.Laws.Choice.{choose, either, never, tests, and-true-left, and-true-right, parts}
 use Rattle.model.specs.Laws.Window.{InRom, window-in}
-use Rattle.model.specs.Laws.Previous.{SoundPrevious, none-sound, access-sound}
+use Rattle.model.specs.Laws.Previous.{SoundPrevious, none-sound, access-sound, block-sound}
 use Rattle.model.specs.Laws.Bounds.{SmallWaits, romWaits-small}
 use Rattle.model.specs.Laws.Switch.{ready-switch, ticks-switch, fetched-switch, restart-switch}
 use Rattle.model.specs.Laws.Switch.{setEnabled-switch, codeFetched-switch}
@@ -29,6 +29,7 @@ use Rattle.model.specs.declared.IsaState.{IsaState}
 use Rattle.model.specs.declared.IsaState.the-variants.{Thumb, Arm}
 use Rattle.model.specs.declared.Step.{Step}
 use Rattle.model.specs.declared.Step.the-variants.{Read, Write, Waitcnt, Idle, Fetch, Restart, Instruction, Pc, Latch}
+use Rattle.model.specs.declared.Step.the-variants.{BlockRead, BlockWrite}
 
 -- a beat is in flight
 pub record Busy (p : PrefetchBuffer) : Type 0 where
@@ -308,7 +309,7 @@ timed-sound c (Restart a) k =
     withPrevious-sound (withPrefetch c _) noAccess
     (withPrefetch-sound c _ k (restart-switch (waitsOf c) (c .prefetch) a)
     (restart-sound (waitsOf c) (romWaits-small (c .waitcnt)) (c .prefetch) a)) none-sound
-timed-sound c (Instruction isa a op jump) k =
+timed-sound c (Instruction v isa a op jump) k =
     record {
       previous = none-sound;
       size = k .size;
@@ -318,6 +319,8 @@ timed-sound c (Instruction isa a op jump) k =
     }
 timed-sound c (Pc a) k = k
 timed-sound c (Latch v) k = k
+timed-sound c (BlockRead a n) k = withPrevious-sound c _ k (block-sound (previousOf c) a n (k .previous))
+timed-sound c (BlockWrite a n) k = withPrevious-sound c _ k (block-sound (previousOf c) a n (k .previous))
 
 -- and so do the idle cycles
 pub idled-sound : (t : Timed) → SoundClock (t .clock) → SoundClock (idled t)

@@ -13,6 +13,7 @@ use Rattle.model.specs.declared.PrefetchBuffer.{PrefetchBuffer}
 use Rattle.model.specs.declared.Clock.{Clock}
 use Rattle.model.specs.declared.Step.{Step}
 use Rattle.model.specs.declared.Step.the-variants.{Read, Write, Waitcnt, Idle, Fetch, Restart, Instruction, Pc, Latch}
+use Rattle.model.specs.declared.Step.the-variants.{BlockRead, BlockWrite}
 
 pub ticks-add : (t : Waits) (a b : ℕ) (p : PrefetchBuffer) → ticks t (a + b) p ≡ ticks t b (ticks t a p)
 unfolding ticks
@@ -49,6 +50,8 @@ same-waits c (Waitcnt v) = record { buffer = refl; halves = λ read h. refl }
 same-waits c (Idle n) = record { buffer = refl; halves = λ read h. refl }
 same-waits c (Fetch a) = record { buffer = refl; halves = λ read h. refl }
 same-waits c (Restart a) = record { buffer = refl; halves = λ read h. refl }
-same-waits c (Instruction isa a op jump) = record { buffer = refl; halves = λ read h. refl }
+same-waits c (Instruction v isa a op jump) = record { buffer = refl; halves = λ read h. refl }
 same-waits c (Pc a) = record { buffer = refl; halves = λ read h. refl }
 same-waits c (Latch v) = record { buffer = refl; halves = λ read h. refl }
+same-waits c (BlockRead a n) = record { buffer = refl; halves = λ read h. refl }
+same-waits c (BlockWrite a n) = record { buffer = refl; halves = λ read h. refl }

@@ -17,6 +17,7 @@ use Rattle.model.specs.declared.Answer.{Answer}
 use Rattle.model.specs.declared.Ground.{Ground}
 use Rattle.model.specs.declared.Step.{Step}
 use Rattle.model.specs.declared.Step.the-variants.{Read, Write, Waitcnt, Idle, Fetch, Restart, Instruction, Pc, Latch}
+use Rattle.model.specs.declared.Step.the-variants.{BlockRead, BlockWrite}
 
 -- ---- an answer without what only the memories tell
 
@@ -26,7 +27,7 @@ withHits n x = record { value = x .value; cycles = x .cycles; hits = n; count = 
 abbrev pub withValue : ℕ → Answer → Answer
 withValue v x = record { value = v; cycles = x .cycles; hits = x .hits; count = x .count; force = x .force }
 
--- the value of READ and FETCH, and the hits of WRITE
+-- the value of READ, FETCH and BLOCK READ, and the hits of WRITE and BLOCK WRITE
 abbrev pub blanked : Step → Answer → Answer
 blanked (Read z a) x = withValue 0 x
 blanked (Write z a v) x = withHits 0 x
@@ -34,9 +35,11 @@ blanked (Waitcnt v) x = x
 blanked (Idle n) x = x
 blanked (Fetch a) x = withValue 0 x
 blanked (Restart a) x = x
-blanked (Instruction isa a op jump) x = x
+blanked (Instruction v isa a op jump) x = x
 blanked (Pc a) x = x
 blanked (Latch v) x = x
+blanked (BlockRead a n) x = withValue 0 x
+blanked (BlockWrite a n) x = withHits 0 x
 
 -- something done to each answer, by its step
 abbrev pub eachStep : (Step → Answer → Answer) → List Step → List Answer → List Answer
@@ -54,11 +57,14 @@ step-blanked m s (Idle n) = refl
 step-blanked m s (Fetch a) =
     ap (λ (n : ℕ). withHits n (foretold (s .board .clock) (Fetch a))) (add-zero (bit (hit (s .board .clock .prefetch) a)))
 step-blanked m s (Restart a) = refl
-step-blanked m s (Instruction isa a op jump) =
-    ap (λ (n : ℕ). withHits n (foretold (s .board .clock) (Instruction isa a op jump)))
+step-blanked m s (Instruction v isa a op jump) =
+    ap (λ (n : ℕ). withHits n (foretold (s .board .clock) (Instruction v isa a op jump)))
     (add-zero (codeHits (s .board .clock) isa a))
 step-blanked m s (Pc a) = refl
 step-blanked m s (Latch v) = refl
+step-blanked m s (BlockRead a n) = refl
+step-blanked m s (BlockWrite a zero) = refl
+step-blanked m s (BlockWrite a (suc n)) = refl
 
 pub run-blanked : (m : Media) (s : State) (xs : List Step)
     → eachStep blanked xs ((run m s xs) .answers) ≡ previewed (s .board .clock) xs
@@ -85,9 +91,11 @@ blanked-cycles (Waitcnt v) y = refl
 blanked-cycles (Idle n) y = refl
 blanked-cycles (Fetch a) y = refl
 blanked-cycles (Restart a) y = refl
-blanked-cycles (Instruction isa a op jump) y = refl
+blanked-cycles (Instruction v isa a op jump) y = refl
 blanked-cycles (Pc a) y = refl
 blanked-cycles (Latch v) y = refl
+blanked-cycles (BlockRead a n) y = refl
+blanked-cycles (BlockWrite a n) y = refl
 
 all-cycles : (xs : List Step) (ys : List Answer) → length ys ≡ length xs → cyclesIn (eachStep blanked xs ys) ≡ cyclesIn ys
 all-cycles [] [] h = refl

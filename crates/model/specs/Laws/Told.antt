@@ -1,25 +1,27 @@
--- W-201, of bytes as lent: what byte 8 of a WRITE's answer tells of the store that the run leaves.
+-- W-201 and W-207, of bytes as lent: what byte 8 of a WRITE's or a BLOCK WRITE's answer tells of the store that the run leaves.
 use mathlib.Core.Path.{_≡_, sym, ap, ap₂, _∙_}
 use mathlib.Core.List.{List}
-use Prim.Native.Nat.{ℕ, suc, _+_, _%_, _≤_, _<_}
+use Prim.Native.Nat.{ℕ, suc, _+_, _*_, _%_, _≤_, _<_}
 use native.Mathlib.Omega.{arith}
-use native.Mathlib.Nat.{mod-eq-of-lt}
+use native.Mathlib.Nat.{zero-add, mod-eq-of-lt}
 use lib.ListN.{length}
 use lib.Seq.{take-suc}
 use Rattle.model.specs.Base.{byteAt}
 use Rattle.model.specs.Memory.{lengthsSum}
 use Rattle.model.specs.Store.{Put, landed, modeOf, puts}
-use Rattle.model.specs.Step.{State, run, stepped, answer}
-use Rattle.model.specs.Sheet.{recordAt, recordCount, stepOf, stepsOf}
+use Rattle.model.specs.Step.{State, run, blockStores, stepped, answer}
+use Rattle.model.specs.Sheet.{recordAt, recordCount, maxWords, stepOf, stepsOf}
 use Rattle.model.specs.Outcome.{Lent, Outcome, mediaOf, firstState, outcome}
 use Rattle.model.specs.Alike.{stateAt, answerAt, answerStart}
 use Rattle.model.specs.Laws.Run.{run-snoc}
-use Rattle.model.specs.Laws.Landed.{four-land, none-lands, Written, written, any-value, write-hits}
+use Rattle.model.specs.Laws.Landed.{four-land, block-land, none-lands, Written, written, block-own, any-value, write-hits}
+use Rattle.model.specs.Laws.Choice.{All}
+use Rattle.model.specs.Laws.Limits.{short-step}
 use Rattle.model.specs.Laws.Demand3.{byte-there, step-there, step-is, accounts}
 use Rattle.model.specs.declared.AccessSize.{AccessSize}
 use Rattle.model.specs.declared.Lengths.{Lengths}
 use Rattle.model.specs.declared.Step.{Step}
-use Rattle.model.specs.declared.Step.the-variants.{Write, Latch}
+use Rattle.model.specs.declared.Step.the-variants.{Write, Latch, BlockWrite}
 
 -- the bytes that a WRITE of step k lands, in the display mode of its moment
 abbrev pub putsOf : Lent → ℕ → AccessSize → ℕ → ℕ → List Put
@@ -76,7 +78,61 @@ module _ (i : Lent) (o : Outcome) (ok : o ≡ outcome i) (zero-number : o .numbe
         none = λ n. store-is ∙ none-lands ((stateAt i k) .store) (putsOf i k z a v) (sym number-is ∙ n);
       }
 
--- of two runs, whatever is stored and whatever their memories hold: equal lengths and one display mode give one number
+-- ---- the same of a BLOCK WRITE
+
+-- the bytes that a BLOCK WRITE of step k lands, word by word
+abbrev pub blockPuts : Lent → ℕ → ℕ → ℕ → List Put
+blockPuts i k a n = (blockStores (i .lengths) ((stateAt i k) .board .contents) ((stateAt i k) .store) a n) .puts
+
+pub record BlockTold (i : Lent) (o : Outcome) (k a n : ℕ) : Type 0 where
+  -- the step leaves the store with these bytes landed, each in the lent memories
+  pub store : (stateAt i (suc k)) .store ≡ landed ((stateAt i k) .store) (blockPuts i k a n)
+  pub own : All (λ (p : Put). p .place < lengthsSum (i .lengths)) (blockPuts i k a n)
+  -- and byte 8 is how many they are, four a word at most, and 64 in all
+  pub number : hitsByte o k ≡ length (blockPuts i k a n)
+  pub most : hitsByte o k ≤ 4 * n
+  pub in-all : hitsByte o k ≤ 64
+  -- 0: the store is as it was
+  pub none : hitsByte o k ≡ 0 → (stateAt i (suc k)) .store ≡ (stateAt i k) .store
+
+module _ (i : Lent) (o : Outcome) (ok : o ≡ outcome i) (zero-number : o .number ≡ 0)
+    (k : ℕ) (h : k < recordCount (i .sheet)) (a n : ℕ) (e : stepOf (recordAt (i .sheet) k) ≡ BlockWrite a n) where
+  abbrev landing : List Put
+  landing = blockPuts i k a n
+
+  four-a-word : length landing ≤ 4 * n
+  four-a-word = block-land (i .lengths) ((stateAt i k) .board .contents) ((stateAt i k) .store) a n
+
+  few : n ≤ maxWords
+  few = let s = (short-step (recordAt (i .sheet) k)) .short in rw e at s
+
+  block-number : hitsByte o k ≡ length landing
+  unfolding answerAt
+  block-number =
+      byte-there (o .answers) k (answerAt i k) ((accounts i o ok zero-number) .bytes k h) 8 (omega arith)
+      ∙ ap (λ (x : Step). (answer (mediaOf i) (stateAt i k) x) .hits % 256) e
+      ∙ ap (λ (m : ℕ). m % 256) (zero-add (length landing))
+      ∙ mod-eq-of-lt (omega (arith, four-a-word, few))
+
+  block-store : (stateAt i (suc k)) .store ≡ landed ((stateAt i k) .store) landing
+  block-store =
+      ap (λ (s : State). s .store) (state-next i k h)
+      ∙ ap (λ (x : Step). (stepped (mediaOf i) (stateAt i k) x) .store) e
+
+  pub block-told : BlockTold i o k a n
+  block-told =
+      record {
+        store = block-store;
+        own = block-own (i .lengths) ((stateAt i k) .board .contents) ((stateAt i k) .store) a n;
+        number = block-number;
+        most = rw block-number four-a-word;
+        in-all = rw block-number (omega (arith, four-a-word, few));
+        none = λ z. block-store ∙ none-lands ((stateAt i k) .store) landing (sym block-number ∙ z);
+      }
+
+-- ---- of two runs
+
+-- whatever is stored by a WRITE and whatever their memories hold: equal lengths and one display mode give one number
 pub told-alike : (i j : Lent) (o p : Outcome) → o ≡ outcome i → p ≡ outcome j → o .number ≡ 0 → p .number ≡ 0
     → (k : ℕ) → k < recordCount (i .sheet) → k < recordCount (j .sheet)
     → (z : AccessSize) (a v u : ℕ) → stepOf (recordAt (i .sheet) k) ≡ Write z a v → stepOf (recordAt (j .sheet) k) ≡ Write z a u

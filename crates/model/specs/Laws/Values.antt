@@ -16,13 +16,14 @@ use Rattle.model.specs.Prefetch.{tick1, arrives, slot, filled, hit}
 use Rattle.model.specs.Timing.{priceInsn}
 use Rattle.model.specs.Video.{fills}
 use Rattle.model.specs.Memory.{byteIn, target, isSram}
-use Rattle.model.specs.Load.{Bus, sramByte, biosByte, byteFrom, load8, load16, load32, load}
+use Rattle.model.specs.Load.{Bus, sramByte, biosByte, byteFrom, load8, load16, load32, load, lastWord}
 use Rattle.model.specs.Store.{Put, landed, put, putBytes, videoPuts, putsAt, puts}
 use Rattle.model.specs.Step.{Media, State, busOf, waitsOf, halfAt, countedIn, countedAt}
-use Rattle.model.specs.Step.{countStore, Timed, timed, Changed, changed, stepped}
+use Rattle.model.specs.Step.{countStore, turnsIn, Timed, timed, Changed, changed, stepped}
+use Rattle.model.specs.Step.{stores, blockStores}
 use Rattle.model.specs.Laws.Choice.{All, either}
 use Rattle.model.specs.Laws.Bounds.{cartIdle≤7}
-use Rattle.model.specs.Laws.Landed.{four-land}
+use Rattle.model.specs.Laws.Landed.{four-land, block-land}
 use Rattle.model.specs.declared.PrefetchBuffer.{PrefetchBuffer}
 use Rattle.model.specs.declared.Contents.{Contents}
 use Rattle.model.specs.declared.VideoMemory.{VideoMemory}
@@ -35,6 +36,7 @@ use Rattle.model.specs.declared.Target.{Target}
 use Rattle.model.specs.declared.Target.the-variants.{Unused, SystemRom, GamePakRom, Plain, Video, Sram}
 use Rattle.model.specs.declared.Step.{Step}
 use Rattle.model.specs.declared.Step.the-variants.{Read, Write, Waitcnt, Idle, Fetch, Restart, Instruction, Pc, Latch}
+use Rattle.model.specs.declared.Step.the-variants.{BlockRead, BlockWrite}
 
 -- ---- loads
 
@@ -156,11 +158,12 @@ pub record Held (s : State) : Type 0 where
 abbrev pub SmallLatch : Step → Type 0
 SmallLatch x = (v : ℕ) → x ≡ Latch v → v < 2 ^ 32
 
-pub record Fitting (d : Changed) : Type 0 where
+-- what n accesses do to the contents fits its places: each lands four bytes at most
+pub record Fitting (n : ℕ) (d : Changed) : Type 0 where
   pub value : d .value < 2 ^ 32
   pub latch : d .contents .«last_bios_opcode» < 2 ^ 32
   pub puts : All PutByte (d .puts)
-  pub few : length (d .puts) ≤ 4
+  pub few : length (d .puts) ≤ 4 * n
 
 count-latch : (t : Target) (n : ℕ) (d : Contents) → (countedAt t n d) .«last_bios_opcode» ≡ d .«last_bios_opcode»
 count-latch Unused n d = refl
@@ -175,12 +178,42 @@ count-latch (Video m p i) n d = in-video m
     in-video ObjectRam = refl
 count-latch (Sram p i) n d = refl
 
+module _ (l : Lengths) where
+  store-fits : (d : Contents) (s : List ℕ) → d .«last_bios_opcode» < 2 ^ 32 → (z : AccessSize) (a v : ℕ)
+      → Fitting 1 (stores l d s z a v)
+  unfolding countStore
+  store-fits d s h z a v =
+      record {
+        value = omega arith;
+        latch = rw (count-latch (target l a)) h;
+        puts = puts-bytes l _ z a v;
+        few = four-land l _ z a v;
+      }
+
+  -- each word of a block by itself
+  block-fits : (d : Contents) (s : List ℕ) → d .«last_bios_opcode» < 2 ^ 32 → (a n : ℕ) → Fitting n (blockStores l d s a n)
+  block-fits d s h a zero = record { value = omega arith; latch = h; puts = tt; few = omega arith }
+  block-fits d s h a (suc n) =
+      let word = stores l d s Word a 0 in
+      let fits : Fitting 1 word = store-fits d s h Word a 0 in
+      let rest = block-fits (word .contents) (landed s (word .puts)) (fits .latch) (further 4 a) n in
+      record {
+        value = omega arith;
+        latch = rest .latch;
+        puts = all-append (word .puts) _ (fits .puts) (rest .puts);
+        few = block-land l d s a (suc n);
+      }
+
+  last-fits : (b : Bus) → BusBytes b → (v a n : ℕ) → v < 2 ^ 32 → lastWord l b v a n < 2 ^ 32
+  last-fits b h v a zero k = k
+  last-fits b h v a (suc n) k = last-fits b h (load l b Word a) (further 4 a) n (load-fits l b h Word a)
+
 module _ (m : Media) (b : MediaBytes m) (s : State) (h : Held s) where
   bus-bytes : BusBytes (busOf m s)
   bus-bytes = record { bios = b .bios; rom = b .rom; store = h .store }
 
-  answering-fits : (v : ℕ) → v < 2 ^ 32 → Fitting (record { value = v; contents = s .board .contents; puts = [] })
-  answering-fits v k = record { value = k; latch = h .latch; puts = tt; few = omega arith }
+  answering-fits : (n v : ℕ) → v < 2 ^ 32 → Fitting n (record { value = v; contents = s .board .contents; puts = [] })
+  answering-fits n v k = record { value = k; latch = h .latch; puts = tt; few = omega arith }
 
   half-fits : (a : ℕ) → halfAt (s .board) a < 2 ^ 32
   unfolding halfAt
@@ -188,23 +221,20 @@ module _ (m : Media) (b : MediaBytes m) (s : State) (h : Held s) where
       either (λ (n : ℕ). n < 2 ^ 32) (hit (s .board .clock .prefetch) a)
       (omega (arith, h .halves (s .board .clock .prefetch .head))) (omega arith)
 
-  pub changed-fits : (x : Step) → SmallLatch x → Fitting (changed m s x)
-  unfolding countStore priceInsn
-  changed-fits (Read z a) k = answering-fits _ (load-fits (m .lengths) (busOf m s) bus-bytes z a)
-  changed-fits (Write z a v) k =
-      record {
-        value = omega arith;
-        latch = rw (count-latch (target (m .lengths) a)) (h .latch);
-        puts = puts-bytes (m .lengths) _ z a v;
-        few = four-land (m .lengths) _ z a v;
-      }
-  changed-fits (Waitcnt v) k = answering-fits 0 (omega arith)
-  changed-fits (Idle n) k = answering-fits 0 (omega arith)
-  changed-fits (Fetch a) k = answering-fits _ (half-fits a)
-  changed-fits (Restart a) k = answering-fits 0 (omega arith)
-  changed-fits (Instruction isa a op jump) k = answering-fits _ (omega (arith, cartIdle≤7 (waitsOf (s .board .clock)) isa a op))
+  pub changed-fits : (x : Step) → SmallLatch x → Fitting (turnsIn x) (changed m s x)
+  unfolding priceInsn
+  changed-fits (Read z a) k = answering-fits 1 _ (load-fits (m .lengths) (busOf m s) bus-bytes z a)
+  changed-fits (Write z a v) k = store-fits (m .lengths) (s .board .contents) (s .store) (h .latch) z a v
+  changed-fits (Waitcnt v) k = answering-fits 0 0 (omega arith)
+  changed-fits (Idle n) k = answering-fits 0 0 (omega arith)
+  changed-fits (Fetch a) k = answering-fits 0 _ (half-fits a)
+  changed-fits (Restart a) k = answering-fits 0 0 (omega arith)
+  changed-fits (Instruction v isa a op jump) k =
+      answering-fits 1 _ (omega (arith, cartIdle≤7 (waitsOf (s .board .clock)) v isa a op))
   changed-fits (Pc a) k = record { value = omega arith; latch = h .latch; puts = tt; few = omega arith }
   changed-fits (Latch v) k = record { value = omega arith; latch = k v refl; puts = tt; few = omega arith }
+  changed-fits (BlockRead a n) k = answering-fits n _ (last-fits (m .lengths) (busOf m s) bus-bytes 0 a n (omega arith))
+  changed-fits (BlockWrite a n) k = block-fits (m .lengths) (s .board .contents) (s .store) (h .latch) a n
 
   pub stepped-held : (x : Step) → SmallLatch x → Held (stepped m s x)
   stepped-held x k =

@@ -59,6 +59,29 @@ returns-9 c =
     simp (c .before .before .before .step9 .given .1)
     (record { record-is = c .unanswered5 .ensures ∙ filled (c .before .with-latch .ensures); store-is = refl })
 
+-- a block has no more words than there can be: the step that came in is short
+block-read-step-requires : tie.Need-block-read-step-requires
+block-read-step-requires c κs =
+    let d = c .before .before in
+    let start = d .before .before .before .before .before in
+    (record { sound = start .pre .0 .sound; whole = start .pre .0 .whole }, rw (d .step10 .given .1) at (start .pre .1))
+
+returns-10 : tie.Need-returns-10
+returns-10 c =
+    simp (c .before .before .before .step10 .given .1) (record { record-is = c .block-read-step .ensures; store-is = refl })
+
+block-write-step-requires : tie.Need-block-write-step-requires
+block-write-step-requires c κs =
+    let d = c .before .before in
+    let start = d .before .before .before .before .before in
+    (record { sound = start .pre .0 .sound; whole = start .pre .0 .whole }, rw (d .step11 .given .1) at (start .pre .1))
+
+returns-11 : tie.Need-returns-11
+returns-11 c =
+    let e = c .before .before .block-write-step .ensures in
+    simp (c .before .before .before .before .before .step11 .given .1)
+    (record { record-is = e .record-is; store-is = e .store-is })
+
 pub begin-spec : {M : Type 1} → statement M
 begin-spec =
     tie.close
@@ -87,6 +110,10 @@ begin-spec =
     (λ c κs. search needs)
     (λ c κs. search needs)
     (λ c. search needs)
+    block-read-step-requires
+    (λ c. search needs)
+    block-write-step-requires
+    (λ c. search needs)
     returns
     (λ c. search needs)
     returns-2
@@ -96,4 +123,8 @@ begin-spec =
     returns-6
     returns-7
     returns-8
-    returns-9)
+    returns-9
+    (λ c. search needs)
+    returns-10
+    (λ c. search needs)
+    returns-11)

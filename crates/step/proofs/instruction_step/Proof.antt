@@ -12,7 +12,7 @@ returns : tie.Need-returns
 returns c =
     let start = c .before .before .before .before in
     let a = start .args in
-    instruct (a .clock) (a .contents) (a .waits) (a .isa) (a .addr) (a .opcode) (a .pc-changed) (start .pre .0)
+    instruct (a .clock) (a .contents) (a .waits) (a .version) (a .isa) (a .addr) (a .opcode) (a .pc-changed) (start .pre .0)
     (c .before .before .price-insn .ensures) (c .before .fetch-code .ensures)
 
 pub instruction-step-spec : {M : Type 1} → statement M

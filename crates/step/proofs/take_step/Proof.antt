@@ -23,7 +23,7 @@ begun c = c .before .before .before .before .before
 tick-idle-requires : tie.Need-tick-idle-requires
 tick-idle-requires c κs =
     let b = begun c in
-    let h = start b .pre in
+    let h = start b .pre .0 in
     let a = start b .args in (
       tick-sound (media b) (state b) (a .step) (a .waits) (h .sound) (h .waits) (b .begin .result) _ (b .begin .ensures),
       tick-small (media b) (state b) (a .step) (a .waits) (h .sound) (h .waits) (b .begin .result) _ (b .begin .ensures),
@@ -33,7 +33,7 @@ returns : tie.Need-returns
 returns c =
     let ticked = c .before .before .before in
     let b = begun (ticked .before) in
-    let h = start b .pre in
+    let h = start b .pre .0 in
     let a = start b .args in
     whole (media b) (state b) (a .step) (a .waits) (h .sound) (h .waits) (b .begin .result) _ (b .begin .ensures)
     (ticked .tick-idle .result) _ (ticked .tick-idle .ensures)

@@ -26,7 +26,8 @@ abbrev fetch : tie.After-bit → tie.After-price-fetch
 fetch c = c .before .before .before
 
 -- the internal cycle
-one : (c : tie.After-bit) → c .bit .result ≡ bit (internal (start c .args .input .isa) (start c .args .input .«opcode_raw»))
+one : (c : tie.After-bit)
+    → (let i = start c .args .input in c .bit .result ≡ bit (internal (i .version) (i .isa) (i .«opcode_raw»)))
 one c = c .bit .ensures ∙ ap bit ((fetch c) .before .before .had-internal .ensures)
 
 -- each sum is of two small numbers
@@ -44,11 +45,11 @@ small c =
       internal = omega (arith, c .bit .ensures, bit-small);
     }
 
-add-t13 : tie.Need-add-t13
-add-t13 c = omega (arith, small (c .before))
-
 add-t14 : tie.Need-add-t14
-add-t14 c = omega (arith, small (c .before .before))
+add-t14 c = omega (arith, small (c .before))
+
+add-t15 : tie.Need-add-t15
+add-t15 c = omega (arith, small (c .before .before))
 
 returns : tie.Need-returns
 unfolding priceInsn fetchBeats cartIdle disableBug
@@ -86,6 +87,6 @@ price-insn-spec =
     (λ c κs. search needs)
     (λ c κs. search needs)
     (λ c. search needs)
-    add-t13
     add-t14
+    add-t15
     returns)

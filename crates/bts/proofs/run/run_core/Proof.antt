@@ -8,18 +8,21 @@ use borrow.Author.Needs.{needs}
 use borrow.Rule.Slice.PartMut.{mid-len}
 use Rattle.model.specs.Step.{Media, State}
 use Rattle.model.specs.Sheet.{recordAt, stepOf}
+use Rattle.model.specs.Laws.Limits.{short-step}
 use Rattle.step.specs.Begun.{mediaFrom, stateFrom}
 use Rattle.bts.specs.Beginning.{Going, begin, turn, same-room}
 use Rattle.bts.proofs.run.run_core.Statement.{statement}
 use Rattle.bts.proofs.run.run_core.Tie as tie
 
 abbrev Inv-loop : tie.InvT-loop
-Inv-loop sheet n h₀ store₀ bios rom lengths answers₀ waits₀ clock₀ held₀ total₀ k₀ h store answers waits clock held total k =
+Inv-loop sheet n h₀ store₀ bios rom lengths answers₀ version waits₀ clock₀ held₀ total₀ k₀ h store answers waits clock held
+    total k =
     Going (mediaFrom bios rom lengths) (stateFrom clock₀ h₀ held₀ store₀) sheet n answers₀ waits (stateFrom clock h held store)
     answers total k
 
 abbrev μ-loop : tie.MeasureT-loop
-μ-loop sheet n h₀ store₀ bios rom lengths answers₀ waits₀ clock₀ held₀ total₀ k₀ h store answers waits clock held total k =
+μ-loop sheet n h₀ store₀ bios rom lengths answers₀ version waits₀ clock₀ held₀ total₀ k₀ h store answers waits clock held
+    total k =
     n - k
 
 -- ---- before the loop
@@ -28,7 +31,7 @@ abbrev Before : Type 0
 Before = tie.After-rom-waits Inv-loop μ-loop
 
 abbrev start : Before → tie.Start Inv-loop μ-loop
-start c = c .before .before .before .before .before .before
+start c = c .before .before .before .before .before .before .before
 
 abbrev media : Before → Media
 media c = mediaFrom (start c .args .bios .now) (start c .args .rom .now) (start c .args .lengths)
@@ -55,10 +58,14 @@ room c =
 -- ---- in a turn of the loop
 
 record-at-requires : tie.Need-record-at-requires Inv-loop μ-loop
-record-at-requires c κs = omega (arith, began (c .before) .pre .long)
+record-at-requires c κs =
+    (omega (arith, began (c .before) .pre .long), c .before .before .before .rules-of .ensures)
 
 take-step-requires : tie.Need-take-step-requires Inv-loop μ-loop
-take-step-requires c κs = c .before .before .before .before .before .loop .inv .ready
+take-step-requires c κs =
+    let of = c .before .before in
+    let short = short-step (recordAt _ (of .before .before .before .loop .k)) in
+    (of .before .before .before .loop .inv .ready, rw (of .step-of .ensures ∙ ap stepOf (of .before .record-at .ensures)) short)
 
 -- a step is taken, and its answer is at hand
 abbrev In-turn : Type 0
@@ -132,6 +139,7 @@ run-core-spec =
     (tie.spec
     Inv-loop
     μ-loop
+    (λ c κs. search needs)
     (λ c κs. search needs)
     loop-holds
     record-at-requires

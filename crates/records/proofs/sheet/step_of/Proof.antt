@@ -53,14 +53,34 @@ returns-8 c = of-kind (high (c .before .before .before)) 6 (omega arith) refl
 
 returns-9 : tie.Need-returns-9
 unfolding stepOf
-returns-9 c = of-kind (high (c .before .before)) 8 (c .if9 .taken) refl
+returns-9 c = of-kind (high (c .before .before .before)) 8 (c .if10 .taken) refl
 
 returns-10 : tie.Need-returns-10
 unfolding stepOf
-returns-10 c = past-kinds (high (c .before .before)) (omega arith)
+returns-10 c = of-kind (high (c .before .before .before)) 9 (omega arith) refl
+
+-- behind kind 9
+abbrev block : tie.Else9 → SheetRecord
+block c = high (c .before .before)
+
+returns-11 : tie.Need-returns-11
+unfolding stepOf
+returns-11 c =
+    of-kind (block (c .before .before .before)) 10 (c .before .before .if11 .taken)
+    (simp (c .before .aligned .ensures, c .words-of .ensures))
+
+returns-12 : tie.Need-returns-12
+unfolding stepOf
+returns-12 c =
+    of-kind (block (c .before .before .before .before)) 11 (c .before .before .if12 .taken)
+    (simp (c .before .aligned2 .ensures, c .words-of2 .ensures))
+
+returns-13 : tie.Need-returns-13
+returns-13 c = past-kinds (block (c .before .before)) (omega arith)
 
 pub step-of-spec : {M : Type 1} → statement M
 step-of-spec =
     tie.close
     (tie.spec returns (search needs) returns-2 (search needs) (search needs) returns-3 (search needs) (search needs)
-    returns-4 returns-5 (search needs) returns-6 returns-7 returns-8 returns-9 returns-10)
+    returns-4 returns-5 (search needs) returns-6 returns-7 returns-8 returns-9 returns-10 (search needs) (search needs)
+    returns-11 (search needs) (search needs) returns-12 returns-13)
