@@ -90,7 +90,8 @@ isaState size = if eqb size 2 then Thumb else Arm
 abbrev pub maxWords : ℕ
 maxWords = 16
 
--- a value of another number is refused, and for how many words it would stand is no matter
+-- the words of a block are as many as its value says, 1 to 16. Another number is refused, and for how many words it would stand is
+-- no matter
 unfoldable pub wordsOf : ℕ → ℕ
 wordsOf value = max 1 (min value maxWords)
 
