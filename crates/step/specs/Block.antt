@@ -1,16 +1,14 @@
 -- A block as the code does it (W-207): what its functions are handed and promise, and the laws of its two loops over the words:
 -- one in time, one that stores.
-use mathlib.Core.Path.{_≡_, refl, sym, ap, ap₂, _∙_}
+use mathlib.Core.Path.{_≡_, refl, sym, ap, _∙_}
 use mathlib.Core.List.{List, [], _++_, append-assoc, append-nil}
 use Prim.Native.Nat.{ℕ, zero, suc, _+_, _-_, _*_, _^_, _≤_, _<_}
 use native.Mathlib.Omega.{arith}
 use native.Mathlib.Nat.{add-zero, add-assoc}
 use lib.ListN.{length, length-append}
 use Rattle.model.specs.Base.{further}
-use Rattle.model.specs.Waitcnt.{Waits, romWaits}
-use Rattle.model.specs.Region.{decode}
 use Rattle.model.specs.Wait.{aligned}
-use Rattle.model.specs.Price.{Previous, previously, previous, accessOf, dataBeats, dataCycles, blockCycles, blockPrevious}
+use Rattle.model.specs.Price.{Previous, previously, previous, accessOf, dataCycles, blockCycles, blockPrevious}
 use Rattle.model.specs.Memory.{lengthsSum, target}
 use Rattle.model.specs.Load.{Bus, load, lastWord}
 use Rattle.model.specs.Store.{Put, puts, putsAt, landed, modeOf, videoCount}
@@ -19,7 +17,6 @@ use Rattle.model.specs.Sheet.{maxWords}
 use Rattle.model.specs.Laws.Bounds.{data-between}
 use Rattle.model.specs.Laws.Landed.{four-land}
 use Rattle.model.specs.Laws.Sound.{SoundClock}
-use Rattle.model.specs.Laws.Near.{aligned-region}
 use Rattle.model.specs.Laws.Previous.{SoundPrevious, access-sound}
 use Rattle.model.specs.Laws.Run.{landed-length}
 use Rattle.model.specs.Laws.Stores.{landed-append}
@@ -28,11 +25,8 @@ use Rattle.model.specs.declared.Clock.{Clock}
 use Rattle.model.specs.declared.Contents.{Contents}
 use Rattle.model.specs.declared.Lengths.{Lengths}
 use Rattle.model.specs.declared.Target.{Target}
-use Rattle.model.specs.declared.Region.{Region}
 use Rattle.parts.specs.declared.Stored.{Stored}
 use Rattle.stores.specs.Stored.{StoredWord}
-use Rattle.step.specs.Begun.{Priceable}
-use Rattle.step.specs.Access.{priceAt}
 use Rattle.step.specs.declared.Zeroed.{Zeroed}
 
 -- a sound clock, and lengths that add up to the store
@@ -78,16 +72,6 @@ module _ {w : ℕ} {p₀ : Previous} {a₀ n₀ : ℕ} where
   end-pricing {p} {k} {a} {left} g h =
       let none : left ≡ 0 = omega arith in
       sym (add-zero k) ∙ (rw none at (g .same))
-
--- what a turn asks, and has, of the price of a word at the lowered address `n`
-module _ (w : ℕ) (p : Previous) (a : ℕ) {n : ℕ} {r : Region} (low : n ≡ aligned Word a) (met : r ≡ decode a) where
-  pub word-priceable : SoundPrevious p → a < 2 ^ 32 → {t : Waits} → t ≡ romWaits w → Priceable w p t n r
-  word-priceable s small e =
-      record { waits = e; sound = s; region = met ∙ sym (ap decode low ∙ aligned-region Word a small) }
-
-  pub word-priced : {cycles : ℕ} → cycles ≡ priceAt w p Word n r → cycles ≡ dataCycles w p Word a
-  unfolding dataBeats
-  word-priced e = e ∙ ap₂ (λ (m : ℕ) (x : Region). priceAt w p Word m x) low met
 
 -- ---- the clock behind it
 

@@ -5,7 +5,8 @@ use native.Mathlib.Omega.{arith}
 use Rattle.model.specs.Price.{previously, dataCycles}
 use Rattle.model.specs.Laws.Bounds.{data-between}
 use Rattle.model.specs.declared.AccessSize.the-variants.{Word}
-use Rattle.step.specs.Block.{Pricing, begin-pricing, turn-pricing, end-pricing, word-priceable, word-priced}
+use Rattle.step.specs.Access.{priceable, priced}
+use Rattle.step.specs.Block.{Pricing, begin-pricing, turn-pricing, end-pricing}
 use borrow.Author.Needs.{needs}
 use Rattle.step.proofs.block_cycles.Statement.{statement}
 use Rattle.step.proofs.block_cycles.Tie as tie
@@ -32,7 +33,7 @@ entry c = c .before .before
 data-price-requires : tie.Need-data-price-requires Inv-loop μ-loop
 data-price-requires c κs =
     let l = loop c .loop in
-    word-priceable (entry (loop c) .args .waitcnt) (previously (l .from) (l .size)) (l .at) (c .before .aligned .ensures)
+    priceable (entry (loop c) .args .waitcnt) (previously (l .from) (l .size)) Word (l .at) (c .before .aligned .ensures)
     (c .decode .ensures) (l .inv .sound) (l .inv .place) (loop c .before .rom-waits .ensures)
 
 -- what the word costs
@@ -43,7 +44,7 @@ cost : (c : tie.After-data-price Inv-loop μ-loop)
 cost c =
     let d = c .before in
     let l = loop d .loop in
-    word-priced (entry (loop d) .args .waitcnt) (previously (l .from) (l .size)) (l .at) (d .before .aligned .ensures)
+    priced (entry (loop d) .args .waitcnt) (previously (l .from) (l .size)) Word (l .at) (d .before .aligned .ensures)
     (d .decode .ensures) (c .data-price .ensures)
 
 add-cycles : tie.Need-add-cycles Inv-loop μ-loop

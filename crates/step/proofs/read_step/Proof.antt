@@ -3,6 +3,7 @@
 use mathlib.Core.Path.{_≡_, ap, _∙_}
 use native.Mathlib.Omega.{arith}
 use Rattle.model.specs.Memory.{targetIn, target}
+use Rattle.model.specs.Price.{previous}
 use Rattle.step.specs.Access.{priceable, priced, remembered}
 use borrow.Author.Needs.{needs}
 use Rattle.step.proofs.read_step.Statement.{statement}
@@ -26,8 +27,8 @@ data-price-requires : tie.Need-data-price-requires
 data-price-requires c κs =
     let at = c .before .before in
     let s = start at in
-    priceable (s .args .clock) (s .args .size) (s .args .addr) (c .aligned .ensures) (at .before .decode .ensures)
-    (s .args .waits) (s .pre .sound) (s .pre .waits) (omega arith)
+    priceable (s .args .clock .waitcnt) (previous (s .args .clock)) (s .args .size) (s .args .addr) (c .aligned .ensures)
+    (at .before .decode .ensures) (s .pre .sound .previous) (omega arith) (s .pre .waits)
 
 returns : tie.Need-returns
 returns c =
@@ -36,8 +37,10 @@ returns c =
     let at = load .before in
     let a = start at .args in
     let region = at .before .decode .ensures in
-    let clock = remembered (a .clock) (a .size) (a .addr) (low .aligned .ensures) region (c .accessed .ensures) in
-    let cycles = priced (a .clock) (a .size) (a .addr) (low .aligned .ensures) region (c .before .data-price .ensures) in
+    let clock = remembered (a .clock) (a .size) (a .addr) (low .aligned .ensures) (c .accessed .ensures) in
+    let cycles =
+    priced (a .clock .waitcnt) (previous (a .clock)) (a .size) (a .addr) (low .aligned .ensures) region
+    (c .before .data-price .ensures) in
     let value = load .read .ensures in
     λ x. record { clock = clock x; idle = 0; cycles = cycles x; hits = 0; value = value x; contents = a .contents }
 

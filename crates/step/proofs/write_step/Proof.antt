@@ -11,6 +11,7 @@ use Rattle.model.specs.Step.{countedAt, countStore}
 use Rattle.model.specs.Laws.Landed.{four-land}
 use Rattle.model.specs.Laws.Places.{Lies, target-lies}
 use Rattle.model.specs.declared.Target.{Target}
+use Rattle.model.specs.Price.{previous}
 use Rattle.step.specs.Access.{priceable, priced, remembered}
 use borrow.Author.Needs.{needs}
 use Rattle.step.proofs.write_step.Statement.{statement}
@@ -23,8 +24,8 @@ start c = c .before .before .before
 data-price-requires : tie.Need-data-price-requires
 data-price-requires c κs =
     let s = start c in
-    priceable (s .args .clock) (s .args .size) (s .args .addr) (c .aligned .ensures) (c .before .decode .ensures)
-    (s .args .waits) (s .pre .sound) (s .pre .waits) (omega arith)
+    priceable (s .args .clock .waitcnt) (previous (s .args .clock)) (s .args .size) (s .args .addr) (c .aligned .ensures)
+    (c .before .decode .ensures) (s .pre .sound .previous) (omega arith) (s .pre .waits)
 
 -- past the price: where it is lowered, and the memory that the address meets
 abbrev low : tie.After-target-in → tie.After-aligned
@@ -56,8 +57,9 @@ returns c =
     let region = (low at) .before .decode .ensures in
     let a = start (low at) .args in
     let mode = modeOf (a .lengths) (a .store .now) in
-    let clock = remembered (a .clock) (a .size) (a .addr) address region (c .before .accessed .ensures) in
-    let cycles = priced (a .clock) (a .size) (a .addr) address region (at .before .data-price .ensures) in
+    let clock = remembered (a .clock) (a .size) (a .addr) address (c .before .accessed .ensures) in
+    let cycles =
+    priced (a .clock .waitcnt) (previous (a .clock)) (a .size) (a .addr) address region (at .before .data-price .ensures) in
     let contents =
     counted .count-store .ensures
     ∙ ap (λ (n : ℕ). countedAt (at .target-in .result) n (a .contents)) (stored .write .ensures .halfwords)
