@@ -2,6 +2,8 @@
 // ROM, and writes a line for each record (index, cycles, value, hits, prefetch count, force flag, and then the grounds of its
 // price, a word a beat) and the total, or the refusal. A refusal, and input or output that fails, are told on standard error too.
 // A program of Rattle has no exit status.
+#![tactic(auto)]
+
 ghost use Rattle.std.specs.Prelude.{◌≤◌};
 ghost use Rattle.model.specs.Sheet.{max_records};
 

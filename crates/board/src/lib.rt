@@ -1,4 +1,6 @@
 // A board as bytes: reading them, writing them, and whether they are sound. From document 01, "Board".
+#![tactic(auto)]
+
 ghost use Rattle.std.specs.Prelude.{◌≡◌, map, ◌≤◌, length};
 ghost use Rattle.model.specs.Base.{encoded, field};
 ghost use Rattle.model.specs.Price.{previously};

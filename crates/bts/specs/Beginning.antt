@@ -11,11 +11,12 @@ use Rattle.model.specs.Step.{Media, State, Result, run, total, stepped, answer}
 use Rattle.model.specs.Sheet.{max_records, record_start, record_at, records_from, step_of}
 use Rattle.model.specs.BoardBytes.{answer_length, answer_bytes, answers_bytes}
 use Rattle.model.specs.Memory.{lengths_sum}
-use Rattle.model.specs.Laws.Sound.{SoundClock, clock_after_sound}
-use Rattle.model.specs.Laws.Choice.{all_of}
-use Rattle.model.specs.Laws.Codec.{OfWidth, blocks_length, blocks_snoc, put_next}
-use Rattle.model.specs.Laws.Run.{run_snoc, run_length, run_store}
-use Rattle.model.specs.Laws.Limits.{records_length, steps_snoc}
+use Rattle.model.specs.Laws.Sound.{SoundClock}
+use Rattle.model.proofs.Laws.Sound.{clock_after_sound}
+use Rattle.model.proofs.Laws.Choice.{all_of}
+use Rattle.model.proofs.Laws.Codec.{OfWidth, blocks_length, blocks_snoc, put_next}
+use Rattle.model.proofs.Laws.Run.{run_snoc, run_length, run_store}
+use Rattle.model.proofs.Laws.Limits.{records_length, steps_snoc}
 use Rattle.step.specs.Begun.{state_from, Runnable, Steps}
 use Rattle.step.specs.declared.Stepped.{Stepped}
 use Rattle.model.specs.declared.Clock.{Clock}

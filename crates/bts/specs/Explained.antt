@@ -14,14 +14,16 @@ use Rattle.model.specs.Outcome.{outcome_by}
 use Rattle.model.specs.Alike.{state_at, answer_at, ReadBack}
 use Rattle.model.specs.Grounds.{grounds_length, grounds_bytes, grounds_after, Explaining, Explained, grounds_verdict, run_grounds}
 use Rattle.model.specs.Grounds.{explain_by, explain}
-use Rattle.model.specs.Laws.Choice.{parts, or_false_left}
-use Rattle.model.specs.Laws.Kinds.{by_kind}
-use Rattle.model.specs.Laws.Refusal.{number_zero, zero_exactly}
-use Rattle.model.specs.Laws.Landed.{other_hits}
-use Rattle.model.specs.Laws.Times.{clock_past, run_clock}
-use Rattle.model.specs.Laws.Limits.{steps_take}
-use Rattle.model.specs.Laws.Demand3.{accounts}
-use Rattle.model.specs.Laws.Explained.{GroundsAcceptable, grounds_accepted}
+use Rattle.model.proofs.Laws.Choice.{parts, or_false_left}
+use Rattle.model.proofs.Laws.Kinds.{by_kind}
+use Rattle.model.proofs.Laws.Refusal.{number_zero, zero_exactly}
+use Rattle.model.proofs.Laws.Landed.{other_hits}
+use Rattle.model.specs.Laws.Times.{clock_past}
+use Rattle.model.proofs.Laws.Times.{run_clock}
+use Rattle.model.proofs.Laws.Limits.{steps_take}
+use Rattle.model.proofs.Laws.Demand3.{accounts}
+use Rattle.model.specs.Laws.Explained.{GroundsAcceptable}
+use Rattle.model.proofs.Laws.Explained.{grounds_accepted}
 use Rattle.examine.specs.Verdicts.{Ready, ready}
 use Rattle.grounds.specs.Turns.{Shows, Explainable, steps_to}
 use Rattle.model.specs.declared.Clock.{Clock}

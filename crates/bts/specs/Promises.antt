@@ -7,23 +7,24 @@ use Rattle.std.proofs.Common.{◌∙◌}
 use Rattle.model.specs.Base.{Exactly}
 use Rattle.model.specs.Sheet.{max_records, version_of, record_at, record_count, records_of, step_of}
 use Rattle.model.specs.VersionOne.{outcome₁}
-use Rattle.model.specs.Laws.VersionOne.{version_one}
+use Rattle.model.proofs.Laws.VersionOne.{version_one}
 use Rattle.model.specs.BoardBytes.{sound}
 use Rattle.model.specs.Outcome.{Lent, LentBytes, Outcome, verdict, outcome_by, outcome}
 use Rattle.model.specs.Alike.{AlikeSheets, AlikeBoards, Limits, Accounts, Demand3}
 use Rattle.model.specs.Tariff.{Tariffed, Billed, tariff_verdict, bill_by, bill, Bills, SameBill}
 use Rattle.model.specs.Preview.{Asked, Previewed, preview_verdict, preview_answers, preview_by, preview, AsRun}
 use Rattle.model.specs.Grounds.{Explaining, Explained, grounds_verdict, explain_by, explain, Explains, SameGrounds}
-use Rattle.model.specs.Laws.Refusal as refusal
+use Rattle.model.proofs.Laws.Refusal as refusal
 use Rattle.model.specs.Laws.Refusal.{Table, Index, Acceptable, Untouched}
-use Rattle.model.specs.Laws.Fits.{board_sound, total_fits}
-use Rattle.model.specs.Laws.Demand3 as demand
-use Rattle.model.specs.Laws.Told.{Told, told, BlockTold, block_told}
-use Rattle.model.specs.Laws.Billed as billed
+use Rattle.model.proofs.Laws.Fits.{board_sound, total_fits}
+use Rattle.model.proofs.Laws.Demand3 as demand
+use Rattle.model.specs.Laws.Told.{Told, BlockTold}
+use Rattle.model.proofs.Laws.Told.{told, block_told}
+use Rattle.model.proofs.Laws.Billed as billed
 use Rattle.model.specs.Laws.Billed.{TariffTable, TariffAcceptable, RateAlone, SharesRoom, Fair, Unbilled}
-use Rattle.model.specs.Laws.Previewed as previewed
+use Rattle.model.proofs.Laws.Previewed as previewed
 use Rattle.model.specs.Laws.Previewed.{PreviewTable, Unwritten}
-use Rattle.model.specs.Laws.Explained as explained
+use Rattle.model.proofs.Laws.Explained as explained
 use Rattle.model.specs.Laws.Explained.{GroundsTable, GroundsAcceptable, GroundsRoom, Untold}
 use Rattle.examine.specs.Verdicts.{ready, index_small, tariff_index_small, grounds_index_small, preview_index_small}
 use Rattle.bts.specs.Reported.{run_accepts, bare_ready}

@@ -11,11 +11,12 @@ use Rattle.model.specs.Outcome.{outcome_by, outcome}
 use Rattle.model.specs.Alike.{cycles_from}
 use Rattle.model.specs.Tariff.{charge, shares_in, Tariffed, Billed, tariff_verdict, bill_by, bill}
 use Rattle.model.specs.Preview.{Asked, Previewed, preview_verdict, preview_by, preview, no_memories, lent_with, each_answer}
-use Rattle.model.specs.Laws.Refusal.{number_zero, zero_exactly}
-use Rattle.model.specs.Laws.Fits.{answers_count, total_fits}
-use Rattle.model.specs.Laws.Demand3.{cycles_there}
-use Rattle.model.specs.Laws.Billed.{TariffAcceptable, tariff_accepted}
-use Rattle.model.specs.Laws.Previewed.{bare_verdict, preview_total}
+use Rattle.model.proofs.Laws.Refusal.{number_zero, zero_exactly}
+use Rattle.model.proofs.Laws.Fits.{answers_count, total_fits}
+use Rattle.model.proofs.Laws.Demand3.{cycles_there}
+use Rattle.model.specs.Laws.Billed.{TariffAcceptable}
+use Rattle.model.proofs.Laws.Billed.{tariff_accepted}
+use Rattle.model.proofs.Laws.Previewed.{bare_verdict, preview_total}
 use Rattle.step.specs.Begun.{state_from}
 use Rattle.examine.specs.Verdicts.{Ready, ready}
 use Rattle.tariff.specs.Shares.{Payable, Billable}

@@ -1,6 +1,8 @@
 // The run of a sheet over a lent board and lent memories, exported to C as `bts_run`, the same under a tariff, exported as
 // `bts_run_tariff`, and with the grounds of its prices, exported as `bts_run_grounds`, and the price of a sheet before it is run,
 // exported as `bts_preview`. include/bts.h documents them for C.
+#![tactic(auto)]
+
 mod run;
 
 ghost use Rattle.std.specs.Prelude.{◌≡◌};
@@ -19,7 +21,7 @@ use records::sheet;
 
 // What a run gives back: 0, the number of records and the total; or the refusal's number and index, and 0.
 #[repr(C)]
-#[derive(Drop)]
+#[derive(Clone, Copy)]
 pub struct Report {
     pub number: u32,
     pub index: u32,
@@ -28,7 +30,7 @@ pub struct Report {
 
 // What a run under a tariff gives back: what a run does, and what its total costs, in cents.
 #[repr(C)]
-#[derive(Drop)]
+#[derive(Clone, Copy)]
 pub struct Bill {
     pub number: u32,
     pub index: u32,

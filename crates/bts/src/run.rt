@@ -23,7 +23,7 @@ fn waits_after(waits: [[u8; 2]; 3], old: u16, new: u16) -> [[u8; 2]; 3]
 }
 
 // What a beginning of a sheet leaves besides the halfwords, the store and the answers: how many steps it has, and their cycles.
-#[derive(Drop)]
+#[derive(Clone, Copy)]
 pub struct Done {
     pub clock: Clock,
     pub contents: Contents,

@@ -10,20 +10,23 @@ use Rattle.model.specs.BoardBytes.{board_length, answer_length, clock_of}
 use Rattle.model.specs.Outcome.{Lent, Row, row, by_row, first_row, sheet_rows, lengths_rows, board_rows, answers_rows}
 use Rattle.model.specs.Outcome.{room_rows, fault_index, records_rows, second_rows, verdict_number}
 use Rattle.model.specs.Outcome.{sizes_fit, verdict, refusal_index, Outcome, outcome_by, outcome}
-use Rattle.model.specs.Laws.Places.{sizes_small, Sized, small_sized}
+use Rattle.model.specs.Laws.Places.{sizes_small, Sized}
+use Rattle.model.proofs.Laws.Places.{small_sized}
 use Rattle.model.specs.Tariff.{share_length, Tariffed, rate_rows, tariff_verdict}
 use Rattle.model.specs.Grounds.{grounds_length, Explaining, grounds_verdict}
 use Rattle.model.specs.Preview.{Asked, no_memories, lent_with, preview_verdict}
-use Rattle.model.specs.Laws.Choice.{parts, or_true_right, or-false}
+use Rattle.model.proofs.Laws.Choice.{parts, or_true_right, or-false}
 use Rattle.model.specs.Laws.Sound.{SoundClock}
-use Rattle.model.specs.Laws.Codec.{sound_formed}
-use Rattle.model.specs.Laws.Rows.{Decides, Rising, or_else_of, row_holds, row_passes, first_append, accepts_none, decided}
-use Rattle.model.specs.Laws.Refusal.{NoFault, FirstFault, Acceptable, accepted_acceptable, table, Index, index}
-use Rattle.model.specs.Laws.Fits.{sound_clock}
-use Rattle.model.specs.Laws.Second.{fault_told}
-use Rattle.model.specs.Laws.Billed as billed
-use Rattle.model.specs.Laws.Previewed.{bare_verdict}
-use Rattle.model.specs.Laws.Explained as explained
+use Rattle.model.proofs.Laws.Codec.{sound_formed}
+use Rattle.model.specs.Laws.Rows.{Decides, Rising, or_else_of}
+use Rattle.model.proofs.Laws.Rows.{row_holds, row_passes, first_append, accepts_none, decided}
+use Rattle.model.specs.Laws.Refusal.{NoFault, FirstFault, Acceptable, Index}
+use Rattle.model.proofs.Laws.Refusal.{accepted_acceptable, table, index}
+use Rattle.model.proofs.Laws.Fits.{sound_clock}
+use Rattle.model.proofs.Laws.Second.{fault_told}
+use Rattle.model.proofs.Laws.Billed as billed
+use Rattle.model.proofs.Laws.Previewed.{bare_verdict}
+use Rattle.model.proofs.Laws.Explained as explained
 use Rattle.model.specs.declared.Lengths.{Lengths}
 use Rattle.model.specs.declared.Refusal.{Refusal}
 use Rattle.model.specs.declared.Refusal.TheVariants.{BadMark, BadVersion, BadShape, BadLengths}

@@ -1,5 +1,7 @@
 // What is examined before a run or a preview: the refusals, in the order of document 01's table, and the tariff's. Nothing is
 // written here.
+#![tactic(auto)]
+
 ghost use Rattle.std.specs.Prelude.{◌≡◌, ◌++◌, ◌≤◌};
 ghost use Rattle.model.specs.Sheet.{max_records};
 ghost use Rattle.model.specs.Outcome as def;

@@ -1,12 +1,14 @@
 // figures: runs the worked figures that are not theorems, those of document 01 and those in the comments of the Rust, and writes
 // what the run answers. The file `stdout` beside src/ has what they must be.
+#![tactic(auto)]
+
 ghost use Rattle.std.specs.Prelude.{◌+◌, ◌≤◌, ◌<◌};
 
 use libc::STDOUT_FILENO;
 use model::{ANSWER_LENGTH, BOARD_LENGTH, HEADER_LENGTH, RECORD_LENGTH};
 
 // A figure has four records, each of kind, size, address and value.
-#[derive(Drop)]
+#[derive(Clone, Copy)]
 struct Row {
     kind: u8,
     size: u8,
@@ -172,7 +174,7 @@ fn print_buffer(answers: &[u8; ANSWERS_LENGTH], k: usize)
 }
 
 // What a run of a figure gives.
-#[derive(Drop)]
+#[derive(Clone, Copy)]
 struct Given {
     number: u32,
     answers: [u8; ANSWERS_LENGTH],

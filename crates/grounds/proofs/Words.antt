@@ -10,10 +10,10 @@ use Rattle.model.specs.Region.{decode}
 use Rattle.model.specs.Wait.{access_size_of, aligned}
 use Rattle.model.specs.Sheet.{max_words}
 use Rattle.model.specs.Grounds.{ground_byte, data_grounds_on, grounds_length, beat_bytes, beat_ground}
-use Rattle.model.specs.Laws.Choice.{either}
-use Rattle.model.specs.Laws.Sizes.{size_back}
-use Rattle.model.specs.Laws.Grounds.{byte_back}
-use Rattle.model.specs.Laws.Explained.{beat_width}
+use Rattle.model.proofs.Laws.Choice.{either}
+use Rattle.model.proofs.Laws.Sizes.{size_back}
+use Rattle.model.proofs.Laws.Grounds.{byte_back}
+use Rattle.model.proofs.Laws.Explained.{beat_width}
 use Rattle.model.specs.declared.Ground.{Ground}
 use Rattle.model.specs.declared.Ground.TheVariants.{Sequential, EwramBus, SramBus, VideoBus, Fast}
 use Rattle.model.specs.declared.BeatGround.TheVariants.{By, NoBeat}

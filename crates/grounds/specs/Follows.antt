@@ -4,7 +4,8 @@ use Rattle.std.specs.Prelude.{◌≡◌, ℕ, zero, suc, ◌+◌, ◌-◌, ◌*�
 use Rattle.std.proofs.Math.Path.{refl, ap}
 use Rattle.std.proofs.Common.{sym, ap₂, ◌∙◌, arith}
 use borrow.Author.Tests.{ne_eqb, lt-leb}
-use Rattle.model.specs.Base.{if◌then◌else◌, bit, further, lowered}
+use Rattle.std.specs.Prelude.{if◌then◌else◌}
+use Rattle.model.specs.Base.{bit, further, lowered}
 use Rattle.model.specs.Waitcnt.{Waits, written, prefetch_enable}
 use Rattle.model.specs.Wait.{size_bytes_of, access_size_of, aligned, window, is_in, in_window, force_nonseq, classify_access}
 use Rattle.model.specs.Prefetch.{emptied, set_enabled, restart_in, restart, ready, tick1, ticks, arrives}
@@ -17,17 +18,23 @@ use Rattle.model.specs.Step.{waits_of, set_waitcnt, priced, rom_fetched, fetched
 use Rattle.model.specs.Sheet.{isa_state, words_of, step_of}
 use Rattle.model.specs.Grounds.{half_ground, kind_ground, first_ground, fetch_grounds_in, fetch_grounds, data_grounds_on, data_grounds}
 use Rattle.model.specs.Grounds.{block_grounds, grounds, beat_bytes}
-use Rattle.model.specs.Laws.Choice.{choose, choose₂, by_test, if_true, if_false, tests, parts, eqb_ne}
-use Rattle.model.specs.Laws.Window.{InRom, true_in_window, window_in}
-use Rattle.model.specs.Laws.Sizes.{aligned_rom}
-use Rattle.model.specs.Laws.Kinds.{Other, by_kind}
-use Rattle.model.specs.Laws.Previous.{SoundPrevious, access_sound, there, rom_kind, some_size}
-use Rattle.model.specs.Laws.Grounds.{bus_window, bus_window_law}
-use Rattle.model.specs.Laws.Rules.{hit_exactly}
-use Rattle.model.specs.Laws.Bounds.{SmallWaits, rom_waits_small}
-use Rattle.model.specs.Laws.Sound.{Sound, SoundClock, ready_sound, tick1_sound, fetched_sound, set_enabled_sound}
-use Rattle.model.specs.Laws.Sound.{code_fetched_sound}
-use Rattle.model.specs.Laws.Commits.{ready_same, tick1_one, tick1_none}
+use Rattle.model.proofs.Laws.Choice.{choose, choose₂, by_test, if_true, if_false, tests, parts, eqb_ne}
+use Rattle.model.specs.Laws.Window.{InRom}
+use Rattle.model.proofs.Laws.Window.{true_in_window, window_in}
+use Rattle.model.proofs.Laws.Sizes.{aligned_rom}
+use Rattle.model.specs.Laws.Kinds.{Other}
+use Rattle.model.proofs.Laws.Kinds.{by_kind}
+use Rattle.model.specs.Laws.Previous.{SoundPrevious}
+use Rattle.model.proofs.Laws.Previous.{access_sound, there, rom_kind, some_size}
+use Rattle.model.specs.Laws.Grounds.{bus_window}
+use Rattle.model.proofs.Laws.Grounds.{bus_window_law}
+use Rattle.model.proofs.Laws.Rules.{hit_exactly}
+use Rattle.model.specs.Laws.Bounds.{SmallWaits}
+use Rattle.model.proofs.Laws.Bounds.{rom_waits_small}
+use Rattle.model.specs.Laws.Sound.{Sound, SoundClock}
+use Rattle.model.proofs.Laws.Sound.{ready_sound, tick1_sound, fetched_sound, set_enabled_sound}
+use Rattle.model.proofs.Laws.Sound.{code_fetched_sound}
+use Rattle.model.proofs.Laws.Commits.{ready_same, tick1_one, tick1_none}
 use Rattle.model.specs.declared.PrefetchBuffer.{PrefetchBuffer}
 use Rattle.model.specs.declared.Clock.{Clock}
 use Rattle.model.specs.declared.Windowed.{Windowed}

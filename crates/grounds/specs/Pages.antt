@@ -4,14 +4,15 @@ use Rattle.std.specs.Prelude.{◌≡◌, ℕ, zero, suc, ◌*◌, ◌/◌, ◌%�
 use Rattle.std.proofs.Math.Path.{refl}
 use Rattle.std.proofs.Common.{sym, ap, ap₂, ◌∙◌, true≢false, arith, eqb-true, ltb-true, ltb-false}
 use Rattle.std.proofs.lemmas.Bool.{false≢true}
-use Rattle.model.specs.Base.{if◌then◌else◌, further}
+use Rattle.std.specs.Prelude.{if◌then◌else◌}
+use Rattle.model.specs.Base.{further}
 use Rattle.model.specs.Region.{page, region_at, decode, bios_size}
 use Rattle.model.specs.Wait.{access_size_of, window, is_in, in_window}
 use Rattle.model.specs.Timing.{code_size}
 use Rattle.model.specs.Sheet.{isa_state}
 use Rattle.model.specs.Price.{wide, Bus, OnEwram, OnVideo, OnRom, OnSram, OnFast, bus_of}
 use Rattle.model.specs.Grounds.{ground_byte, half_ground, plain_ground, fetch_grounds_in, fetch_grounds, data_grounds_on, beat_bytes}
-use Rattle.model.specs.Laws.Choice.{choose, choose₂, either, by_test, tests, and_true_left, and_true_right}
+use Rattle.model.proofs.Laws.Choice.{choose, choose₂, either, by_test, tests, and_true_left, and_true_right}
 use Rattle.model.specs.declared.Ground.{Ground}
 use Rattle.model.specs.declared.Ground.TheVariants.{Sequential, EwramBus, SramBus, VideoBus, Fast}
 use Rattle.model.specs.declared.Region.{Region}

@@ -2,7 +2,8 @@
 -- where a data access goes on from the previous one. These are the code's own terms; that they follow the clock is shown in
 -- Follows.antt.
 use Rattle.std.specs.Prelude.{◌≡◌, ℕ, zero, suc, ◌+◌, ◌-◌, ◌*◌, ◌/◌, ◌%◌, ◌^◌, ◌≤◌, Bool, not, ◌&&◌, leb, List, [], ◌∷◌, ◌++◌, length, replicate, ◌==◌, nat_eq, nat_le, nat_lt}
-use Rattle.model.specs.Base.{if◌then◌else◌, byte_at, further, lowered}
+use Rattle.std.specs.Prelude.{if◌then◌else◌}
+use Rattle.model.specs.Base.{byte_at, further, lowered}
 use Rattle.model.specs.Region.{page, decode}
 use Rattle.model.specs.Wait.{size_bytes_of, access_size_of, aligned, in_window, force_nonseq}
 use Rattle.model.specs.Timing.{code_size}

@@ -13,12 +13,14 @@ use Rattle.model.specs.Sheet.{max_records, record_start, record_at, records_from
 use Rattle.model.specs.BoardBytes.{answer_length}
 use Rattle.model.specs.Alike.{answer_start}
 use Rattle.model.specs.Grounds.{grounds, grounds_after, grounds_length, beat_bytes, grounds_bytes}
-use Rattle.model.specs.Laws.Choice.{if_false}
-use Rattle.model.specs.Laws.Sound.{SoundClock, clock_after_sound}
-use Rattle.model.specs.Laws.Codec.{blocks_length, blocks_snoc, put_next}
-use Rattle.model.specs.Laws.Times.{clock_past, clock_snoc, grounds_snoc}
-use Rattle.model.specs.Laws.Limits.{records_length, steps_short, steps_snoc}
-use Rattle.model.specs.Laws.Explained.{all_widths, grounds_length_law}
+use Rattle.model.proofs.Laws.Choice.{if_false}
+use Rattle.model.specs.Laws.Sound.{SoundClock}
+use Rattle.model.proofs.Laws.Sound.{clock_after_sound}
+use Rattle.model.proofs.Laws.Codec.{blocks_length, blocks_snoc, put_next}
+use Rattle.model.specs.Laws.Times.{clock_past}
+use Rattle.model.proofs.Laws.Times.{clock_snoc, grounds_snoc}
+use Rattle.model.proofs.Laws.Limits.{records_length, steps_short, steps_snoc}
+use Rattle.model.proofs.Laws.Explained.{all_widths, grounds_length_law}
 use Rattle.model.specs.declared.Clock.{Clock}
 use Rattle.model.specs.declared.SheetRecord.{SheetRecord}
 use Rattle.model.specs.declared.Step.{Step}

@@ -3,8 +3,10 @@
 //
 // A pass of its own, so that the run's loop is the same with grounds and without. What a ground needs of the clock is little: the
 // prefetch count and the force flag stand in the answers, and the rest is carried along, a `Trail`.
+#![tactic(auto)]
+
 ghost use Rattle.std.specs.Prelude.{◌≡◌, ℕ, ◌*◌, ◌≤◌, false, [], ◌++◌, map, length, drop};
-ghost use Rattle.model.specs.Base.{if◌then◌else◌};
+ghost use Rattle.std.specs.Prelude.{if◌then◌else◌};
 ghost use Rattle.model.specs.Sheet.{isa_state, max_words, records_from, step_of};
 ghost use Rattle.model.specs.Wait.{access_size_of};
 ghost use Rattle.model.specs.Grounds as def;
@@ -20,7 +22,7 @@ pub mod names;
 // ---- the beats of a step, of which there are at most two
 
 // The bytes of the first and the second, 0 for none.
-#[derive(Drop)]
+#[derive(Clone, Copy)]
 struct Beats {
     first: u8,
     second: u8,
@@ -83,7 +85,7 @@ fn first_ground(next: u64, low: u32) -> Ground
 
 // Where the buffer's first halfword stands, or comes to stand, and where a data access goes on from the previous one: past every
 // address where there is none.
-#[derive(Drop)]
+#[derive(Clone, Copy)]
 struct Trail {
     front: u32,
     next: u64,
@@ -111,7 +113,7 @@ fn begun(clock: Clock) -> Trail
 }
 
 // What the answers tell of the clock before a step: the prefetch count and the force flag.
-#[derive(Drop)]
+#[derive(Clone, Copy)]
 struct Before {
     count: u8,
     forced: bool,

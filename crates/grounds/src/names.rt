@@ -40,7 +40,7 @@ pub fn beat_ground(byte: u8) -> BeatGround
 }
 
 // A name: so many letters, the rest zero.
-#[derive(Drop)]
+#[derive(Clone, Copy)]
 pub struct Name {
     pub letters: [u8; 7],
     pub length: usize,

@@ -9,7 +9,7 @@ use lib.ListN.{length, take, drop, length-append, length-drop, get_or-eq_default
 use lib.Seq.{sets, sets-eq, take_all, take_at, length-take-le, drop-drop}
 use borrow.Rule.Slice.PartMut.{put_mid}
 use Rattle.model.specs.Base.{bit, number}
-use Rattle.model.specs.Laws.Codec.{flag_byte, number_add}
+use Rattle.model.proofs.Laws.Codec.{flag_byte, number_add}
 
 -- ---- a list written from its front on
 

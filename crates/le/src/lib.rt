@@ -1,5 +1,7 @@
 // Numbers in little-endian bytes, read from a slice and written to one. What a program calls is total: past the end of the
 // bytes it reads 0. The readers and writers of fixed width leave the lengths to their callers, who test them once.
+#![tactic(auto)]
+
 ghost use Rattle.std.specs.Prelude.{◌≡◌, ◌++◌, ◌+◌, ◌*◌, ◌≤◌, ◌<◌, length};
 ghost use Rattle.model.specs.Base as def;
 

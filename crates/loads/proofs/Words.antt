@@ -9,9 +9,11 @@ use Rattle.model.specs.Mirror.{rom_offset}
 use Rattle.model.specs.Wait.{size_bytes_of}
 use Rattle.model.specs.Memory.{byte_in, target, is_sram}
 use Rattle.model.specs.Load.{Bus, byte_from, load8, load}
-use Rattle.model.specs.Laws.Choice.{choose, either}
-use Rattle.model.specs.Laws.Near.{around, moved, near}
-use Rattle.model.specs.Laws.Aligned.{AlignedWord, plain_aligned, video_aligned, rom_aligned, aligned_load}
+use Rattle.model.proofs.Laws.Choice.{choose, either}
+use Rattle.model.specs.Laws.Near.{around, moved}
+use Rattle.model.proofs.Laws.Near.{near}
+use Rattle.model.specs.Laws.Aligned.{AlignedWord}
+use Rattle.model.proofs.Laws.Aligned.{plain_aligned, video_aligned, rom_aligned, aligned_load}
 use Rattle.model.specs.declared.AccessSize.{AccessSize}
 use Rattle.model.specs.declared.AccessSize.TheVariants.{Byte, Half, Word}
 use Rattle.model.specs.declared.Lengths.{Lengths}

@@ -1,6 +1,8 @@
 // The bus's loads of 1, 2 and 4 bytes over the lent memories. Port of the loads of src/bus/mod.rs (`Bus as CpuMem`). BIOS and ROM
 // are slices of their own; the other memories are parts of one store, with their lengths beside it. The pc and the BIOS latch
 // are handed in by value. A load goes on from the memory that its address meets, which the caller has decoded.
+#![tactic(auto)]
+
 ghost use Rattle.std.specs.Prelude.{◌≡◌, ◌+◌, ◌-◌, ◌%◌, ◌^◌, ◌<◌, ◌≤◌, length};
 ghost use Rattle.model.specs.Load as def;
 ghost use Rattle.model.specs.Wait.{size_bytes_of};
@@ -114,7 +116,7 @@ pub fn read32(
 // ---- an aligned load, which lies in one memory
 
 // `Option<u32>`: the word at a place, if all four bytes of it stand in the memory.
-#[derive(Drop)]
+#[derive(Clone, Copy)]
 pub enum Loaded {
     Word(u32),
     Apart,

@@ -2,7 +2,8 @@
 -- total, and the columns that two such runs agree in. The claim is stated once, over outcomes.
 -- From document 01, "Demand 3", and document 02, W-201 and W-207.
 use Rattle.std.specs.Prelude.{◌≡◌, ◌≢◌, ◌||◌, List, [], ◌∷◌, map, ℕ, zero, suc, ◌+◌, ◌*◌, ◌≤◌, ◌<◌, take, drop, eqb}
-use Rattle.model.specs.Base.{if◌then◌else◌, bit, sum, byte_at, number}
+use Rattle.std.specs.Prelude.{if◌then◌else◌}
+use Rattle.model.specs.Base.{bit, sum, byte_at, number}
 use Rattle.model.specs.Step.{State, run, answer}
 use Rattle.model.specs.Sheet.{header_length, is_block, record_at, record_count, records_of, step_of, steps_of}
 use Rattle.model.specs.BoardBytes.{board_length, answer_length, answer_bytes}

@@ -1,11 +1,6 @@
 -- Words that all the definitions use: a choice by a test, sums, and numbers as bytes.
 use Rattle.std.specs.Prelude.{Bool, true, false, List, [], ◌∷◌, ◌++◌, map, ℕ, zero, suc, ◌+◌, ◌*◌, ◌/◌, ◌%◌, ◌^◌, ◌<◌, get_or}
 
-infixr 20 if◌then◌else◌
-abbrev pub if◌then◌else◌ : {A : Type 0} → Bool → A → A → A
-if true then x else y = x
-if false then x else y = y
-
 -- 1 for true, 0 for false
 abbrev pub bit : Bool → ℕ
 bit true = 1

@@ -2,7 +2,8 @@
 -- From document 01, "Records (added)": "Board" is its word for the state that a run starts from and leaves; from byte 68 on,
 -- document 02, W-204.
 use Rattle.std.specs.Prelude.{Bool, false, not, ◌&&◌, ◌||◌, List, [], ◌∷◌, ◌++◌, ℕ, ◌+◌, ◌-◌, ◌*◌, ◌/◌, ◌%◌, length, replicate, eqb, leb}
-use Rattle.model.specs.Base.{if◌then◌else◌, bit, same, byte_at, number, numbers_from, Field, field, encoded, numbers_bytes}
+use Rattle.std.specs.Prelude.{if◌then◌else◌}
+use Rattle.model.specs.Base.{bit, same, byte_at, number, numbers_from, Field, field, encoded, numbers_bytes}
 use Rattle.model.specs.Base.{blocks}
 use Rattle.model.specs.Waitcnt.{prefetch_enable}
 use Rattle.model.specs.Wait.{in_window}

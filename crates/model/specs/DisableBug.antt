@@ -2,7 +2,7 @@
 -- From the ARM7TDMI data sheet's instruction formats and GBATEK, "GBA GamePak Prefetch" (disable bug); src/bus/disable_bug.rs;
 -- document 01, "The opcode tests stay as they are", and document 02, W-207, which moves one of them in version 2.
 use Rattle.std.specs.Prelude.{Bool, not, ◌&&◌, ◌||◌, ℕ, ◌/◌, ◌%◌, ◌^◌, eqb}
-use Rattle.model.specs.Base.{if◌then◌else◌}
+use Rattle.std.specs.Prelude.{if◌then◌else◌}
 use Rattle.model.specs.declared.AccessKind.{AccessKind}
 use Rattle.model.specs.declared.AccessKind.TheVariants.{Nonseq, Seq}
 use Rattle.model.specs.declared.Version.{Version}

@@ -1,7 +1,8 @@
 -- Why a step costs what it does: the ground of each of its beats, what a run with grounds gives back, and what is claimed of it.
 -- From document 02, W-206, and W-207, by which a block has the grounds of its words.
 use Rattle.std.specs.Prelude.{◌≡◌, Bool, true, false, not, ◌&&◌, List, [], ◌∷◌, ◌++◌, map, ℕ, zero, suc, ◌+◌, ◌-◌, ◌*◌, ◌≤◌, ◌<◌, length, take, drop, replicate, eqb, ltb}
-use Rattle.model.specs.Base.{if◌then◌else◌, bit, sum, further, byte_at, blocks, Exactly}
+use Rattle.std.specs.Prelude.{if◌then◌else◌}
+use Rattle.model.specs.Base.{bit, sum, further, byte_at, blocks, Exactly}
 use Rattle.model.specs.Region.{page, decode}
 use Rattle.model.specs.Waitcnt.{Waits, rom_waits_of, sram_waits}
 use Rattle.model.specs.Wait.{aligned, window, force_nonseq, rom_half_cycles}

@@ -1,7 +1,6 @@
--- The theorems about the definitions, from the small to the large.
+-- What the theorems of proofs/Laws say, as definitions.
 pub mod Choice
 pub mod Window
-pub mod Sizes
 pub mod Kinds
 pub mod Previous
 pub mod Rules
@@ -10,13 +9,10 @@ pub mod Bounds
 pub mod Tick
 pub mod Switch
 pub mod Sound
-pub mod SoundTest
-pub mod Beats
 pub mod Commits
 pub mod Codec
 pub mod Places
 pub mod Near
-pub mod RomLoad
 pub mod Stores
 pub mod Landed
 pub mod Aligned

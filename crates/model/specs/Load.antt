@@ -2,7 +2,8 @@
 -- From GBATEK, "GBA Memory Map" and "GBA Unpredictable Things"; src/bus/mod.rs (`Bus as CpuMem`) and openbus.rs; document 01,
 -- "mod.rs".
 use Rattle.std.specs.Prelude.{List, ℕ, zero, suc, ◌+◌, ◌*◌, ◌%◌, eqb, ltb}
-use Rattle.model.specs.Base.{if◌then◌else◌, further, byte_of, byte_at}
+use Rattle.std.specs.Prelude.{if◌then◌else◌}
+use Rattle.model.specs.Base.{further, byte_of, byte_at}
 use Rattle.model.specs.Region.{bios_size}
 use Rattle.model.specs.Mirror.{rom_offset}
 use Rattle.model.specs.Memory.{byte_in, target, is_sram}

@@ -1,7 +1,8 @@
 -- The seven memories of the lent store, and the memory that an address meets.
 -- From GBATEK, "GBA Memory Map"; src/bus/mod.rs (`Bus`); document 01, "Memories".
 use Rattle.std.specs.Prelude.{Bool, true, false, List, ℕ, ◌+◌, ltb}
-use Rattle.model.specs.Base.{if◌then◌else◌, byte_at}
+use Rattle.std.specs.Prelude.{if◌then◌else◌}
+use Rattle.model.specs.Base.{byte_at}
 use Rattle.model.specs.Region.{decode}
 use Rattle.model.specs.Mirror.{ewram_offset, iwram_offset, io_offset, palette_offset, vram_offset, oam_offset, sram_offset}
 use Rattle.model.specs.declared.Region.{Region}

@@ -2,7 +2,7 @@
 -- From GBATEK, "GBA Memory Map" and "GBA Unpredictable Things" (mirrors); src/bus/mirror.rs; document 01,
 -- "Offsets as in mirror.rs".
 use Rattle.std.specs.Prelude.{not, ◌&&◌, ℕ, ◌+◌, ◌-◌, ◌%◌, eqb, ltb, leb}
-use Rattle.model.specs.Base.{if◌then◌else◌}
+use Rattle.std.specs.Prelude.{if◌then◌else◌}
 use Rattle.model.specs.Region.{page, bios_size, ewram_size, iwram_size, palette_size, oam_size, rom_size, sram_size}
 use Rattle.model.specs.declared.Offset.{Offset}
 use Rattle.model.specs.declared.Offset.TheVariants.{At, Unbacked}

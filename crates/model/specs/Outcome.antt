@@ -1,7 +1,8 @@
 -- What the run gives back, and what it leaves: one function of all that is lent.
 -- From document 01, "What the run gives back", and document 02, W-207, by which the version may be 2.
-use Rattle.std.specs.Prelude.{Bool, not, ◌&&◌, ◌||◌, List, [], ◌∷◌, ◌++◌, ℕ, ◌+◌, ◌*◌, length, drop, eqb, ltb, leb}
-use Rattle.model.specs.Base.{if◌then◌else◌, AllBytes}
+use Rattle.std.specs.Prelude.{Bool, not, ◌&&◌, ◌||◌, List, [], ◌∷◌, ◌++◌, ℕ, ◌*◌, length, drop, eqb, ltb, leb}
+use Rattle.std.specs.Prelude.{if◌then◌else◌}
+use Rattle.model.specs.Base.{AllBytes}
 use Rattle.model.specs.Region.{bios_size, ewram_size, iwram_size, io_size, palette_size, vram_size, oam_size, rom_size, sram_size}
 use Rattle.model.specs.Memory.{lengths_sum}
 use Rattle.model.specs.Step.{Media, State, Result, run, total}

@@ -2,7 +2,8 @@
 -- (`filled`).
 -- From GBATEK, "GBA GamePak Prefetch"; src/bus/prefetch.rs; document 01, "prefetch.rs".
 use Rattle.std.specs.Prelude.{Bool, true, false, not, ◌&&◌, List, ℕ, zero, suc, ◌+◌, ◌-◌, ◌%◌, set, eqb, ltb, leb}
-use Rattle.model.specs.Base.{if◌then◌else◌, further, lowered}
+use Rattle.std.specs.Prelude.{if◌then◌else◌}
+use Rattle.model.specs.Base.{further, lowered}
 use Rattle.model.specs.Waitcnt.{Waits}
 use Rattle.model.specs.Wait.{nonseq_if, window, in_window, rom_half_cycles, rom_half_cycles_at}
 use Rattle.model.specs.declared.PrefetchBuffer.{PrefetchBuffer}

@@ -1,7 +1,8 @@
 -- Price before running: the answers that the clock tells without memories, what a preview gives back, and what is claimed of it.
 -- From document 02, W-205 and W-207.
 use Rattle.std.specs.Prelude.{◌≡◌, ◌≢◌, ◌||◌, List, [], ◌∷◌, ◌++◌, ℕ, ◌*◌, length, take, drop, set, eqb}
-use Rattle.model.specs.Base.{if◌then◌else◌, bytes, sum}
+use Rattle.std.specs.Prelude.{if◌then◌else◌}
+use Rattle.model.specs.Base.{bytes, sum}
 use Rattle.model.specs.Memory.{no_lengths}
 use Rattle.model.specs.Step.{priced, timed, clock_after, cycles_in}
 use Rattle.model.specs.Sheet.{record_count, records_from, steps_of}

@@ -1,7 +1,8 @@
 -- What a data access costs: it is a list of beats, and its price is their sum.
 -- From document 01, "Data price (added)", and document 02, W-204 and W-207, with GBATEK's access times.
 use Rattle.std.specs.Prelude.{List, [], ◌∷◌, map, ℕ, zero, suc, ◌+◌, eqb}
-use Rattle.model.specs.Base.{if◌then◌else◌, sum, further}
+use Rattle.std.specs.Prelude.{if◌then◌else◌}
+use Rattle.model.specs.Base.{sum, further}
 use Rattle.model.specs.Region.{decode, same_region}
 use Rattle.model.specs.Waitcnt.{Waits, rom_waits_of, sram_waits}
 use Rattle.model.specs.Wait.{size_bytes_of, access_size_of, aligned, kind_at, classify_access}

@@ -1,7 +1,7 @@
 -- The memory map: 13 regions, the bus width and the physical size of each.
 -- From GBATEK, "GBA Memory Map"; src/bus/region.rs; document 01, "region.rs".
 use Rattle.std.specs.Prelude.{Bool, true, false, ℕ, ◌/◌, eqb, ltb}
-use Rattle.model.specs.Base.{if◌then◌else◌}
+use Rattle.std.specs.Prelude.{if◌then◌else◌}
 use Rattle.model.specs.declared.Region.{Region}
 use Rattle.model.specs.declared.Region.TheVariants.{Bios, UnusedLow, Ewram, Iwram, Io, Palette, Vram, Oam}
 use Rattle.model.specs.declared.Region.TheVariants.{GamePakRomWs0, GamePakRomWs1, GamePakRomWs2, GamePakSram, UnusedHigh}

@@ -1,7 +1,8 @@
 -- A sheet: its header and its records, as bytes; the steps that they stand for; and the faults of a record.
 -- From document 01, "Records (added)": "Sheet" is its word for the list of steps that a run is given; and document 02, W-207.
 use Rattle.std.specs.Prelude.{Bool, not, ◌&&◌, ◌||◌, List, [], ◌∷◌, map, ℕ, zero, suc, ◌+◌, ◌*◌, ◌%◌, min, max, length, eqb, leb}
-use Rattle.model.specs.Base.{if◌then◌else◌, byte_at, number}
+use Rattle.std.specs.Prelude.{if◌then◌else◌}
+use Rattle.model.specs.Base.{byte_at, number}
 use Rattle.model.specs.Wait.{access_size_of, aligned}
 use Rattle.model.specs.declared.AccessSize.TheVariants.{Word}
 use Rattle.model.specs.declared.Version.{Version}

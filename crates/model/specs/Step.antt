@@ -3,8 +3,9 @@
 -- memory among its arguments.
 -- From document 01, "Records (added)", "Kind 7 (added)", "Data price (added)", and document 02, W-204 and W-207; each step names
 -- the Rust calls it stands for.
-use Rattle.std.specs.Prelude.{Bool, false, ◌&&◌, List, [], ◌∷◌, ◌++◌, map, ℕ, zero, suc, ◌+◌, length, get_or}
-use Rattle.model.specs.Base.{if◌then◌else◌, bit, sum, further}
+use Rattle.std.specs.Prelude.{Bool, ◌&&◌, List, [], ◌∷◌, ◌++◌, map, ℕ, zero, suc, ◌+◌, length, get_or}
+use Rattle.std.specs.Prelude.{if◌then◌else◌}
+use Rattle.model.specs.Base.{bit, sum, further}
 use Rattle.model.specs.Waitcnt.{Waits, written, prefetch_enable, rom_waits_of}
 use Rattle.model.specs.Wait.{window}
 use Rattle.model.specs.Prefetch.{set_enabled, restart, ticks, filled, hit, fetched}

@@ -2,7 +2,8 @@
 -- many bytes land is the length of their list, which a WRITE answers (W-201).
 -- From GBATEK, "GBA Memory Map" and "GBA Unpredictable Things"; src/bus/mod.rs (`Bus as CpuMem`); document 01, "mod.rs".
 use Rattle.std.specs.Prelude.{Bool, List, [], ◌∷◌, ◌++◌, ℕ, zero, suc, ◌+◌, ◌-◌, ◌*◌, ◌/◌, ◌%◌, ◌^◌, min, set, ltb}
-use Rattle.model.specs.Base.{if◌then◌else◌, bit, lowered, byte_of}
+use Rattle.std.specs.Prelude.{if◌then◌else◌}
+use Rattle.model.specs.Base.{bit, lowered, byte_of}
 use Rattle.model.specs.Wait.{size_bytes_of}
 use Rattle.model.specs.Video.{fills}
 use Rattle.model.specs.Memory.{io_part, byte_in, target}

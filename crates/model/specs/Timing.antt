@@ -3,7 +3,8 @@
 -- From GBATEK, "ARM CPU Instruction Cycle Times" and "GBA GamePak Prefetch"; src/cpu/timing.rs; document 01, "cpu/timing.rs".
 -- Departures: branches and stores have no extra or nonsequential fetch, and data cycles are steps of their own.
 use Rattle.std.specs.Prelude.{Bool, List, [], ◌∷◌, ℕ, ◌+◌, ◌%◌, eqb}
-use Rattle.model.specs.Base.{if◌then◌else◌, bit, further}
+use Rattle.std.specs.Prelude.{if◌then◌else◌}
+use Rattle.model.specs.Base.{bit, further}
 use Rattle.model.specs.Region.{page}
 use Rattle.model.specs.Waitcnt.{Waits}
 use Rattle.model.specs.Wait.{nonseq_if, window, in_window, kind_at}

@@ -1,7 +1,8 @@
 -- What a sheet meant before version 2 (W-207): the definitions of document 01 for version 1, as they were when it was the only
 -- one. No contract cites them; Laws/VersionOne.antt has that a version 1 sheet still means what they say.
 use Rattle.std.specs.Prelude.{Bool, not, ◌&&◌, ◌||◌, List, [], ◌∷◌, ◌++◌, map, ℕ, ◌+◌, ◌%◌, length, eqb, ltb, leb}
-use Rattle.model.specs.Base.{if◌then◌else◌, bit}
+use Rattle.std.specs.Prelude.{if◌then◌else◌}
+use Rattle.model.specs.Base.{bit}
 use Rattle.model.specs.Waitcnt.{Waits}
 use Rattle.model.specs.Wait.{access_size_of, window, in_window, nonseq_if}
 use Rattle.model.specs.DisableBug.{bits_are, arm_internal, force_next_fetch_nonseq}

@@ -2,7 +2,7 @@
 -- From GBATEK, "GBA Unpredictable Things" (8-bit writes to video memory) and "LCD VRAM Overview"; src/bus/video.rs;
 -- document 01, "video.rs".
 use Rattle.std.specs.Prelude.{Bool, true, false, not, ℕ, leb}
-use Rattle.model.specs.Base.{if◌then◌else◌}
+use Rattle.std.specs.Prelude.{if◌then◌else◌}
 use Rattle.model.specs.declared.VideoMemory.{VideoMemory}
 use Rattle.model.specs.declared.VideoMemory.TheVariants.{PaletteRam, VideoRam, ObjectRam}
 

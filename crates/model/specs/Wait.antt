@@ -1,7 +1,8 @@
 -- Access kinds, ROM windows, and the cycles of one access.
 -- From GBATEK, "GBA Memory Map" (access times) and "GBA System Control" (waitstates); src/bus/wait.rs; document 01, "wait.rs".
 use Rattle.std.specs.Prelude.{Bool, true, false, not, ◌&&◌, [], ℕ, ◌+◌, ◌%◌, ◌^◌, get_or, eqb, ltb}
-use Rattle.model.specs.Base.{if◌then◌else◌, further, lowered}
+use Rattle.std.specs.Prelude.{if◌then◌else◌}
+use Rattle.model.specs.Base.{further, lowered}
 use Rattle.model.specs.Region.{page}
 use Rattle.model.specs.Waitcnt.{Waits}
 use Rattle.model.specs.declared.RomWindow.{RomWindow}

@@ -1,7 +1,8 @@
 -- WAITCNT: what a write keeps, and the waits that its fields stand for.
 -- From GBATEK, "GBA System Control" (4000204h, WAITCNT); src/bus/waitcnt.rs; document 01, "waitcnt.rs".
 use Rattle.std.specs.Prelude.{Bool, List, [], ◌∷◌, ℕ, ◌+◌, ◌*◌, ◌/◌, ◌%◌, get_or, eqb}
-use Rattle.model.specs.Base.{if◌then◌else◌, bit}
+use Rattle.std.specs.Prelude.{if◌then◌else◌}
+use Rattle.model.specs.Base.{bit}
 use Rattle.model.specs.declared.RomWindow.{RomWindow}
 use Rattle.model.specs.declared.RomWindow.TheVariants.{Ws0, Ws1, Ws2}
 

@@ -1,6 +1,8 @@
 // The types that the machine's definitions (specs/) and every layer's code share. A type that ports one of the Rust's
 // keeps its name; the others are made for the scope document's added parts. No code that runs a sheet is here: only the
 // functions by which a type makes its own fresh value.
+#![tactic(auto)]
+
 ghost use Rattle.std.specs.Prelude.{◌≡◌};
 ghost use Rattle.model.specs.Memory.{no_lengths};
 ghost use Rattle.model.specs.Prefetch.{new_buffer};
@@ -8,7 +10,7 @@ ghost use Rattle.model.specs.BoardBytes.{fresh_board};
 
 // ---- src/bus/region.rs
 
-#[derive(Drop)]
+#[derive(Clone, Copy)]
 pub enum Region {
     Bios,
     UnusedLow,
@@ -25,7 +27,7 @@ pub enum Region {
     UnusedHigh,
 }
 
-#[derive(Drop)]
+#[derive(Clone, Copy)]
 pub enum BusWidth {
     Bits8,
     Bits16,
@@ -33,14 +35,14 @@ pub enum BusWidth {
 }
 
 // `Option<BusWidth>`: the unused areas have no bus.
-#[derive(Drop)]
+#[derive(Clone, Copy)]
 pub enum RegionWidth {
     Wide(BusWidth),
     NoBus,
 }
 
 // `Option<usize>`: the unused areas have no memory.
-#[derive(Drop)]
+#[derive(Clone, Copy)]
 pub enum RegionSize {
     Bytes(usize),
     NoMemory,
@@ -49,7 +51,7 @@ pub enum RegionSize {
 // ---- src/bus/mirror.rs
 
 // `Option<usize>`: the place of an address in its memory, if one stands there.
-#[derive(Drop)]
+#[derive(Clone, Copy)]
 pub enum Offset {
     At(usize),
     Unbacked,
@@ -57,13 +59,13 @@ pub enum Offset {
 
 // ---- src/bus/wait.rs
 
-#[derive(Drop)]
+#[derive(Clone, Copy)]
 pub enum AccessKind {
     Nonseq,
     Seq,
 }
 
-#[derive(Drop)]
+#[derive(Clone, Copy)]
 pub enum RomWindow {
     Ws0,
     Ws1,
@@ -71,13 +73,13 @@ pub enum RomWindow {
 }
 
 // `Option<RomWindow>`: the ROM window of an address, if it has one.
-#[derive(Drop)]
+#[derive(Clone, Copy)]
 pub enum Windowed {
     In(RomWindow),
     Outside,
 }
 
-#[derive(Drop)]
+#[derive(Clone, Copy)]
 pub enum AccessSize {
     Byte,
     Half,
@@ -87,7 +89,7 @@ pub enum AccessSize {
 // ---- src/bus/prefetch.rs
 
 // The prefetch buffer without its eight halfwords, which stand beside it: time does not depend on them.
-#[derive(Drop)]
+#[derive(Clone, Copy)]
 pub struct PrefetchBuffer {
     pub head: usize,
     pub count: usize,
@@ -119,13 +121,13 @@ impl PrefetchBuffer {
 
 // ---- src/cpu/timing.rs
 
-#[derive(Drop)]
+#[derive(Clone, Copy)]
 pub enum IsaState {
     Arm,
     Thumb,
 }
 
-#[derive(Drop)]
+#[derive(Clone, Copy)]
 pub struct TimingInput {
     // Added (W-207): by which version's test an internal cycle is looked for.
     pub version: Version,
@@ -137,7 +139,7 @@ pub struct TimingInput {
     pub force_fetch_n: bool,
 }
 
-#[derive(Drop)]
+#[derive(Clone, Copy)]
 pub struct InsnCycles {
     pub total: u32,
     pub internal: u32,
@@ -185,14 +187,14 @@ pub const MAX_RATE: u32 = 1_000_000;
 
 // The version by whose rules a sheet is read (W-207). It decides which kinds there are and where Thumb's POP is looked for, and
 // nothing else.
-#[derive(Drop)]
+#[derive(Clone, Copy)]
 pub enum Version {
     One,
     Two,
 }
 
 // A record of a sheet: the sheet's version, and its 12 bytes as fields.
-#[derive(Drop)]
+#[derive(Clone, Copy)]
 pub struct SheetRecord {
     pub version: Version,
     pub kind: u8,
@@ -205,7 +207,7 @@ pub struct SheetRecord {
 
 // A record decoded: one variant for each of the eleven kinds, in their order. A block has the address of its first word, lowered
 // to a multiple of 4, and the number of words.
-#[derive(Drop)]
+#[derive(Clone, Copy)]
 pub enum Step {
     Read(AccessSize, u32),
     Write(AccessSize, u32, u32),
@@ -221,7 +223,7 @@ pub enum Step {
 }
 
 // The part of a board on which cycles, counts, the force flag and the hits in the buffer depend, and nothing else of it.
-#[derive(Drop)]
+#[derive(Clone, Copy)]
 pub struct Clock {
     pub waitcnt: u16,
     pub force_next_fetch_n: bool,
@@ -233,7 +235,7 @@ pub struct Clock {
 }
 
 // What loads and stores see or change of a board.
-#[derive(Drop)]
+#[derive(Clone, Copy)]
 pub struct Contents {
     pub cpu_pc: u32,
     pub last_bios_opcode: u32,
@@ -243,7 +245,7 @@ pub struct Contents {
 }
 
 // A board: its clock, the buffer's eight halfwords, and its contents.
-#[derive(Drop)]
+#[derive(Clone, Copy)]
 pub struct Board {
     pub clock: Clock,
     pub halves: [u16; 8],
@@ -282,7 +284,7 @@ impl Board {
 // ---- added: the memories
 
 // The lengths of the seven memories of the lent store, in its order.
-#[derive(Drop)]
+#[derive(Clone, Copy)]
 pub struct Lengths {
     pub ewram: usize,
     pub iwram: usize,
@@ -311,14 +313,14 @@ impl Lengths {
 }
 
 // Where a memory starts in the lent store, and how long it is.
-#[derive(Drop)]
+#[derive(Clone, Copy)]
 pub struct Part {
     pub base: usize,
     pub size: usize,
 }
 
 // The three memories on the video bus, each with a counter of its own on the board.
-#[derive(Drop)]
+#[derive(Clone, Copy)]
 pub enum VideoMemory {
     PaletteRam,
     VideoRam,
@@ -327,7 +329,7 @@ pub enum VideoMemory {
 
 // The memory that an address meets, and the place in it. An access is decoded to one of these once; loads, stores and counters
 // go on from there.
-#[derive(Drop)]
+#[derive(Clone, Copy)]
 pub enum Target {
     // Unused areas, and I/O that nothing backs.
     Unused,
@@ -343,7 +345,7 @@ pub enum Target {
 // ---- added: why a step costs what it does (W-206)
 
 // What decides the price of a beat. specs/Grounds.antt has document 02's name of each, its byte in a lent buffer and its cycles.
-#[derive(Drop)]
+#[derive(Clone, Copy)]
 pub enum Ground {
     BufferHit,
     Sequential,
@@ -359,7 +361,7 @@ pub enum Ground {
 }
 
 // `Option<Ground>`: what a byte of the grounds says.
-#[derive(Drop)]
+#[derive(Clone, Copy)]
 pub enum BeatGround {
     By(Ground),
     NoBeat,
@@ -367,7 +369,7 @@ pub enum BeatGround {
 
 // ---- added: what a step answers
 
-#[derive(Drop)]
+#[derive(Clone, Copy)]
 pub struct Answer {
     pub value: u32,
     pub cycles: u32,
@@ -381,7 +383,7 @@ pub struct Answer {
 
 // The refusals, in the order in which they are looked for; a faulty record's holds its index. The first seven are the run's,
 // the last is the tariff's (W-202).
-#[derive(Drop)]
+#[derive(Clone, Copy)]
 pub enum Refusal {
     BadMark,
     BadVersion,
@@ -393,7 +395,7 @@ pub enum Refusal {
     BadRate,
 }
 
-#[derive(Drop)]
+#[derive(Clone, Copy)]
 pub enum Verdict {
     Accepted,
     Refused(Refusal),

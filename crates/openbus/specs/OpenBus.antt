@@ -1,7 +1,8 @@
 -- BIOS loads from outside the BIOS, and what an empty cartridge slot shows.
 -- From GBATEK, "GBA Unpredictable Things" (reading from BIOS memory, unused memory); src/bus/openbus.rs.
 use Rattle.std.specs.Prelude.{ℕ, ◌+◌, ◌*◌, ◌/◌, ◌%◌, Bool, nat_lt}
-use Rattle.model.specs.Base.{if◌then◌else◌, further}
+use Rattle.std.specs.Prelude.{if◌then◌else◌}
+use Rattle.model.specs.Base.{further}
 use Rattle.model.specs.Region.{bios_size}
 use Rattle.openbus.specs.declared.OpenBusState.{OpenBusState}
 use Rattle.openbus.specs.declared.ProtectedRead.{ProtectedRead}

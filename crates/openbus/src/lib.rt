@@ -1,4 +1,6 @@
 // BIOS loads from outside the BIOS, and an empty cartridge slot. Port of src/bus/openbus.rs.
+#![tactic(auto)]
+
 ghost use Rattle.std.specs.Prelude.{◌≡◌, ◌%◌};
 ghost use Rattle.model.specs.Base.{byte_of};
 ghost use Rattle.openbus.specs.OpenBus as lines;
@@ -7,7 +9,7 @@ ghost use Rattle.openbus.specs.OpenBus as lines;
 pub const BIOS_END: u32 = 0x4000;
 
 // The last opcode that was fetched from the BIOS.
-#[derive(Drop)]
+#[derive(Clone, Copy)]
 pub struct OpenBusState {
     pub last_bios_opcode: u32,
 }
@@ -33,7 +35,7 @@ impl OpenBusState {
 }
 
 // `Option<u32>`: with the pc inside the BIOS it is read as other memory.
-#[derive(Drop)]
+#[derive(Clone, Copy)]
 pub enum ProtectedRead {
     Latched(u32),
     Unprotected,

@@ -12,8 +12,8 @@ use borrow.Author.Tests.{ltb-true, ltb-false}
 use Rattle.model.specs.Base.{bit}
 use Rattle.model.specs.Memory.{byte_in, after}
 use Rattle.model.specs.Store.{Put, landed, put}
-use Rattle.model.specs.Laws.Landed.{put_lands}
-use Rattle.model.specs.Laws.Choice.{choose}
+use Rattle.model.proofs.Laws.Landed.{put_lands}
+use Rattle.model.proofs.Laws.Choice.{choose}
 use Rattle.model.specs.declared.Part.{Part}
 use Rattle.parts.specs.Stored.{store_report, Stores, whole}
 use Rattle.parts.specs.declared.Stored.{Stored}

@@ -2,7 +2,7 @@
 use Rattle.std.specs.Prelude.{◌≡◌, refl, List, [], ◌++◌, ℕ, ◌+◌, ◌^◌, ◌≤◌, ◌<◌, length}
 use Rattle.std.proofs.Common.{sym, ap, ap₂, ◌∙◌, arith, length-append}
 use Rattle.model.specs.Store.{Put, landed}
-use Rattle.model.specs.Laws.Stores.{landed_append}
+use Rattle.model.proofs.Laws.Stores.{landed_append}
 use Rattle.model.specs.declared.Part.{Part}
 use Rattle.parts.specs.declared.Stored.{Stored}
 

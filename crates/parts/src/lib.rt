@@ -1,5 +1,7 @@
 // The memories as parts of the one lent store, which stands for seven of the Rust's `Vec`s: where each lies, which of them an
 // address meets, and bytes loaded from one or stored in it.
+#![tactic(auto)]
+
 ghost use Rattle.std.specs.Prelude.{◌≡◌, ◌+◌, ◌^◌, ◌≤◌, ◌<◌, length};
 ghost use Rattle.model.specs.Memory as def;
 ghost use Rattle.model.specs.Store.{put, put_bytes, put_aligned};
@@ -152,7 +154,7 @@ pub fn byte_in(store: &[u8], part: Part, index: usize) -> u8
 
 // What a store reports: the bytes that landed in its memory, and the video halfwords that it counts. The two go apart: a byte
 // past a memory's end doesn't land, and its halfword counts.
-#[derive(Drop)]
+#[derive(Clone, Copy)]
 pub struct Stored {
     pub landed: u64,
     pub halfwords: u64,

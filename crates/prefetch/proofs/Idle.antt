@@ -6,11 +6,12 @@ use Rattle.model.specs.Waitcnt.{Waits}
 use Rattle.model.specs.Load.{rom_halfword}
 use Rattle.model.specs.Prefetch.{ended, with_wait, ready, ticks, slot, filled}
 use Rattle.model.specs.Laws.Bounds.{SmallWaits}
-use Rattle.model.specs.Laws.Tick.{ticks_add, filled_add}
-use Rattle.model.specs.Laws.Switch.{ready_switch, ticks_switch}
-use Rattle.model.specs.Laws.Sound.{Sound, ready_sound, ticks_sound}
-use Rattle.model.specs.Laws.Rules.{off_stays}
-use Rattle.model.specs.Laws.Beats as beats
+use Rattle.model.proofs.Laws.Tick.{ticks_add, filled_add}
+use Rattle.model.proofs.Laws.Switch.{ready_switch, ticks_switch}
+use Rattle.model.specs.Laws.Sound.{Sound}
+use Rattle.model.proofs.Laws.Sound.{ready_sound, ticks_sound}
+use Rattle.model.proofs.Laws.Rules.{off_stays}
+use Rattle.model.proofs.Laws.Beats as beats
 use Rattle.model.specs.declared.PrefetchBuffer.{PrefetchBuffer}
 use Rattle.prefetch.specs.InFlight.{InFlight}
 use Rattle.prefetch.specs.Ticked.{Ticked}

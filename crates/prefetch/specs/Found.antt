@@ -1,6 +1,6 @@
 -- What a look into the buffer and an opcode fetch from it give: the halfword at its head, and the buffer after.
 use Rattle.std.specs.Prelude.{ℕ, List, slice_index}
-use Rattle.model.specs.Base.{if◌then◌else◌}
+use Rattle.std.specs.Prelude.{if◌then◌else◌}
 use Rattle.model.specs.Prefetch.{hit, fetched}
 use Rattle.model.specs.declared.PrefetchBuffer.{PrefetchBuffer}
 use Rattle.prefetch.specs.declared.Half.{Half}

@@ -1,5 +1,7 @@
 // The Game Pak prefetch buffer: it fetches opcode halfwords ahead of the CPU while the cartridge bus is idle. Port of
 // src/bus/prefetch.rs. The buffer goes in by value and comes back; its eight halfwords are lent beside it.
+#![tactic(auto)]
+
 ghost use Rattle.std.specs.Prelude.{◌≡◌, ◌-◌, ◌<◌, ◌≤◌, min};
 ghost use Rattle.model.specs.Base as base;
 ghost use Rattle.model.specs.Load as load;
@@ -19,14 +21,14 @@ use region::mirror::rom_offset;
 pub const PREFETCH_CAPACITY: usize = 8;
 
 // `Option<u16>`: the halfword at an address, if the buffer has it.
-#[derive(Drop)]
+#[derive(Clone, Copy)]
 pub enum Half {
     Found(u16),
     Missed,
 }
 
 // What a fetch gives: the buffer after it, and the halfword.
-#[derive(Drop)]
+#[derive(Clone, Copy)]
 pub struct Fetched {
     pub prefetch: PrefetchBuffer,
     pub half: Half,

@@ -9,7 +9,8 @@ use native.Mathlib.Omega.{arith}
 use Rattle.std.proofs.Math.Nat.{sub-zero, sub_self}
 use Rattle.std.proofs.Math.ListN.{take, drop}
 use borrow.Rule.Slice.PartMut.{put_mid, same_len_mid}
-use Rattle.model.specs.Base.{if◌then◌else◌, bytes, number, AllBytes}
+use Rattle.std.specs.Prelude.{if◌then◌else◌}
+use Rattle.model.specs.Base.{bytes, number, AllBytes}
 use Rattle.model.specs.Memory.{no_lengths}
 use Rattle.model.specs.Store.{Put, puts, mode_of}
 use Rattle.model.specs.Step.{Media, State, block_stores, run, stepped, answer}
@@ -17,14 +18,16 @@ use Rattle.model.specs.Sheet.{max_records, record_start, record_at, record_count
 use Rattle.model.specs.BoardBytes.{answer_length, answer_bytes, answers_bytes}
 use Rattle.model.specs.Outcome.{media_of, first_state, ran}
 use Rattle.model.specs.Preview.{Asked, preview_answers, no_memories, lent_with, each_answer}
-use Rattle.model.specs.Laws.Choice.{All, by_test, either, if_true, if_false}
-use Rattle.model.specs.Laws.Kinds.{by_kind}
-use Rattle.model.specs.Laws.Codec.{bytes_number, put_before, mid_before}
-use Rattle.model.specs.Laws.Landed.{written, block_own, write_hits}
-use Rattle.model.specs.Laws.Times.{with_hits, with_value, blanked, each_step, run_blanked}
-use Rattle.model.specs.Laws.Limits.{records_length}
-use Rattle.model.specs.Laws.Fits.{answers_count}
-use Rattle.model.specs.Laws.Previewed.{each_answer_law}
+use Rattle.model.specs.Laws.Choice.{All}
+use Rattle.model.proofs.Laws.Choice.{by_test, either, if_true, if_false}
+use Rattle.model.proofs.Laws.Kinds.{by_kind}
+use Rattle.model.proofs.Laws.Codec.{bytes_number, put_before, mid_before}
+use Rattle.model.proofs.Laws.Landed.{written, block_own, write_hits}
+use Rattle.model.specs.Laws.Times.{with_hits, with_value, blanked, each_step}
+use Rattle.model.proofs.Laws.Times.{run_blanked}
+use Rattle.model.proofs.Laws.Limits.{records_length}
+use Rattle.model.proofs.Laws.Fits.{answers_count}
+use Rattle.model.proofs.Laws.Previewed.{each_answer_law}
 use Rattle.model.specs.declared.AccessSize.{AccessSize}
 use Rattle.model.specs.declared.Answer.{Answer}
 use Rattle.model.specs.declared.Contents.{Contents}

@@ -1,7 +1,9 @@
 // Price before running: what is left to do to the answers of a run over no memories, so that they are a preview's. Only the
 // values of INSTRUCTION are told by the clock; every other one is set to 0. From document 02, W-205.
+#![tactic(auto)]
+
 ghost use Rattle.std.specs.Prelude.{◌≡◌, eqb, length};
-ghost use Rattle.model.specs.Base.{if◌then◌else◌};
+ghost use Rattle.std.specs.Prelude.{if◌then◌else◌};
 ghost use Rattle.model.specs.Sheet.{records_from};
 ghost use Rattle.model.specs.BoardBytes.{answer_length};
 ghost use Rattle.model.specs.Preview.{each_answer};

@@ -9,10 +9,11 @@ use lib.Dec.{eqb, leb, ltb, leb-suc-zero, eqb-suc-zero}
 use lib.ListN.{get_or}
 use lib.Pow.{shr-shr}
 use borrow.Author.Tests.{ltb-true, le-leb, lt-leb, eqb-true, ne_eqb}
-use Rattle.model.specs.Base.{if◌then◌else◌, bit}
+use Rattle.std.specs.Prelude.{if◌then◌else◌}
+use Rattle.model.specs.Base.{bit}
 use Rattle.model.specs.Sheet.{max_words, is_block, last_kind, size_fits, uses_flag, uses_address, uses_value}
 use Rattle.model.specs.Sheet.{kind_fault, field_fault, faulty}
-use Rattle.model.specs.Laws.Choice.{either, by_test, never, tests, bit≤1, or_right, or_false_right}
+use Rattle.model.proofs.Laws.Choice.{either, by_test, never, tests, bit≤1, or_right, or_false_right}
 use Rattle.model.specs.declared.SheetRecord.{SheetRecord}
 use Rattle.model.specs.declared.Version.{Version}
 use Rattle.model.specs.declared.Version.TheVariants.{One, Two}

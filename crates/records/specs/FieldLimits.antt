@@ -1,7 +1,7 @@
 -- The greatest flag, address and value of each kind, and the least value, as `least_faulty` has them in its table, behind the
 -- sizes.
 use Rattle.std.specs.Prelude.{List, [], ◌∷◌, ℕ, zero, suc, eqb}
-use Rattle.model.specs.Base.{if◌then◌else◌}
+use Rattle.std.specs.Prelude.{if◌then◌else◌}
 use Rattle.model.specs.Sheet.{max_words, is_block, uses_flag, uses_address, uses_value}
 
 -- the row of a kind

@@ -1,5 +1,7 @@
 // The memory map: which region an address lies in, how wide its bus is and how large its memory. Port of src/bus/region.rs;
 // `mirror` is src/bus/mirror.rs.
+#![tactic(auto)]
+
 ghost use Rattle.std.specs.Prelude.{◌≡◌};
 ghost use Rattle.model.specs.Region as map;
 

@@ -17,6 +17,8 @@
 // two of them; and, of version 2, 202 runs, 48 under a tariff, 173 with grounds and 175 previews: blocks of 1 to 16 words over
 // every edge, beside each other kind of step, the opcodes around POP, versions that there are and that there aren't, and each
 // refusal alone and each two of them.
+#![tactic(auto)]
+
 mod pattern;
 
 ghost use Rattle.std.specs.Prelude.{◌≡◌, ◌+◌, ◌*◌, ◌≤◌};
@@ -28,7 +30,7 @@ use libc::{STDIN_FILENO, STDOUT_FILENO};
 use model::Lengths;
 
 // How a case, or a part of it, came out: whether the sample had all of it, and whether nothing differed.
-#[derive(Drop)]
+#[derive(Clone, Copy)]
 struct Found {
     whole: bool,
     same: bool,
@@ -83,7 +85,7 @@ fn lengths_of(head: &[u8]) -> Lengths
 }
 
 // What a case does, and from which seed its buffers are made.
-#[derive(Drop)]
+#[derive(Clone, Copy)]
 struct Asked {
     seed: u32,
     operation: u32,

@@ -9,7 +9,7 @@ use Rattle.model.specs.Wait.{size_bytes_of, aligned, kind_at}
 use Rattle.model.specs.Price.{Previous, price, previously, kind_after, data_beats_in, data_beats, data_cycles}
 use Rattle.model.specs.Step.{with_previous, accessed}
 use Rattle.model.specs.Laws.Previous.{SoundPrevious}
-use Rattle.model.specs.Laws.Near.{aligned_region}
+use Rattle.model.proofs.Laws.Near.{aligned_region}
 use Rattle.model.specs.declared.Region.{Region}
 use Rattle.model.specs.declared.AccessSize.{AccessSize}
 use Rattle.model.specs.declared.Clock.{Clock}

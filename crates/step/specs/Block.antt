@@ -11,12 +11,13 @@ use Rattle.model.specs.Load.{Bus, load, last_word_of}
 use Rattle.model.specs.Store.{Put, puts, puts_at, landed, mode_of, video_count}
 use Rattle.model.specs.Step.{with_previous, block_timed, Changed, counted_at, count_store, stores, block_stores}
 use Rattle.model.specs.Sheet.{max_words}
-use Rattle.model.specs.Laws.Bounds.{data_between}
-use Rattle.model.specs.Laws.Landed.{four_land}
+use Rattle.model.proofs.Laws.Bounds.{data_between}
+use Rattle.model.proofs.Laws.Landed.{four_land}
 use Rattle.model.specs.Laws.Sound.{SoundClock}
-use Rattle.model.specs.Laws.Previous.{SoundPrevious, access_sound}
-use Rattle.model.specs.Laws.Run.{landed_length}
-use Rattle.model.specs.Laws.Stores.{landed_append}
+use Rattle.model.specs.Laws.Previous.{SoundPrevious}
+use Rattle.model.proofs.Laws.Previous.{access_sound}
+use Rattle.model.proofs.Laws.Run.{landed_length}
+use Rattle.model.proofs.Laws.Stores.{landed_append}
 use Rattle.model.specs.declared.AccessSize.TheVariants.{Word}
 use Rattle.model.specs.declared.Clock.{Clock}
 use Rattle.model.specs.declared.Contents.{Contents}

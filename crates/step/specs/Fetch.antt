@@ -8,9 +8,9 @@ use Rattle.model.specs.Prefetch.{restart, occupied, hit, taken, fetched}
 use Rattle.model.specs.Timing.{price_insn}
 use Rattle.model.specs.Step.{with_prefetch, cleared, timing_input, priced, rom_fetched, rom_hits, fetched_in}
 use Rattle.model.specs.Step.{hits_in, code_fetched, code_hits, code_clock, half_at}
-use Rattle.model.specs.Laws.Choice.{choose, either}
-use Rattle.model.specs.Laws.Rules.{missed_again}
-use Rattle.model.specs.Laws.Switch.{restart_fetched}
+use Rattle.model.proofs.Laws.Choice.{choose, either}
+use Rattle.model.proofs.Laws.Rules.{missed_again}
+use Rattle.model.proofs.Laws.Switch.{restart_fetched}
 use Rattle.prefetch.specs.Found.{found}
 use Rattle.prefetch.specs.declared.Half.{Half}
 use Rattle.prefetch.specs.declared.Half.TheVariants.{Found, Missed}

@@ -6,10 +6,12 @@ use Rattle.model.specs.Prefetch.{ticks, filled}
 use Rattle.model.specs.Load.{rom_halfword}
 use Rattle.model.specs.Step.{Media, State, bus_of, waits_of, with_prefetch, Timed, timed}
 use Rattle.model.specs.Step.{idled, changed, refilled, stepped, answer, clock_after}
-use Rattle.model.specs.Laws.Bounds.{SmallWaits, rom_waits_small}
-use Rattle.model.specs.Laws.Sound.{Sound, SoundClock, timed_sound, clock_after_sound}
-use Rattle.model.specs.Laws.RomLoad.{filled_rom}
-use Rattle.model.specs.Laws.Tick.{same_waits}
+use Rattle.model.specs.Laws.Bounds.{SmallWaits}
+use Rattle.model.proofs.Laws.Bounds.{rom_waits_small}
+use Rattle.model.specs.Laws.Sound.{Sound, SoundClock}
+use Rattle.model.proofs.Laws.Sound.{timed_sound, clock_after_sound}
+use Rattle.model.proofs.Laws.RomLoad.{filled_rom}
+use Rattle.model.proofs.Laws.Tick.{same_waits}
 use Rattle.model.specs.declared.PrefetchBuffer.{PrefetchBuffer}
 use Rattle.model.specs.declared.Clock.{Clock}
 use Rattle.model.specs.declared.Answer.{Answer}

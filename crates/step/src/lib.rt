@@ -1,5 +1,7 @@
 // One step of a run: what a record does to the board and the store, and its answer. Each step stands for the Rust calls that
 // document 01's table names.
+#![tactic(auto)]
+
 ghost use Rattle.std.specs.Prelude.{◌≡◌, ◌-◌, ◌*◌, ◌<◌, ◌≤◌, [], length};
 ghost use Rattle.model.specs.Waitcnt.{rom_waits_of, sram_waits};
 ghost use Rattle.model.specs.Wait.{size_bytes_of, kind_at};
@@ -27,7 +29,7 @@ use stores::saturating_add;
 use waits::waitcnt::WaitCnt;
 
 // A step up to its idle cycles, and how many of them follow.
-#[derive(Drop)]
+#[derive(Clone, Copy)]
 struct Begun {
     clock: Clock,
     idle: u32,
@@ -318,7 +320,7 @@ fn block_read_step(
 }
 
 // What a block that stores leaves besides the store: the counters, and how many bytes landed.
-#[derive(Drop)]
+#[derive(Clone, Copy)]
 struct Zeroed {
     contents: Contents,
     landed: u64,
@@ -458,7 +460,7 @@ fn fetch_step(clock: Clock, contents: Contents, halves: &[u16; 8], addr: u32) ->
 }
 
 // The buffer after an opcode is fetched through it, and the halves that it had.
-#[derive(Drop)]
+#[derive(Clone, Copy)]
 struct CodeFetch {
     prefetch: PrefetchBuffer,
     hits: u8,
@@ -628,7 +630,7 @@ fn begin(
 }
 
 // What a step leaves besides the halfwords and the store, and its answer.
-#[derive(Drop)]
+#[derive(Clone, Copy)]
 pub struct Stepped {
     pub clock: Clock,
     pub contents: Contents,

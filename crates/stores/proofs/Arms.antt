@@ -8,13 +8,14 @@ use native.Mathlib.Omega.{arith}
 use lib.ListN.{length}
 use lib.Dec.{ltb, leb, lit<, lit≤}
 use borrow.Author.Tests.{ltb-false, le-leb}
-use Rattle.model.specs.Base.{if◌then◌else◌, bit, lowered, byte_of}
+use Rattle.std.specs.Prelude.{if◌then◌else◌}
+use Rattle.model.specs.Base.{bit, lowered, byte_of}
 use Rattle.model.specs.Region.{vram_size}
 use Rattle.model.specs.Video.{obj_vram_base, is_obj_vram, fills}
 use Rattle.model.specs.Wait.{size_bytes_of}
 use Rattle.model.specs.Store.{landed, put, put_aligned, video_puts}
-use Rattle.model.specs.Laws.Choice.{choose, either}
-use Rattle.model.specs.Laws.Stores.{put_bytes_one}
+use Rattle.model.proofs.Laws.Choice.{choose, either}
+use Rattle.model.proofs.Laws.Stores.{put_bytes_one}
 use Rattle.model.specs.declared.AccessSize.{AccessSize}
 use Rattle.model.specs.declared.AccessSize.TheVariants.{Byte, Half, Word}
 use Rattle.model.specs.declared.Part.{Part}

@@ -1,6 +1,8 @@
 // The bus's stores of 1, 2 and 4 bytes to the lent memories, which are parts of one store. Port of the stores of src/bus/mod.rs
 // (`Bus as CpuMem`). A store goes on from the memory that its address meets, which the caller has decoded, and reports the bytes
 // that landed and the video halfwords that it counts.
+#![tactic(auto)]
+
 ghost use Rattle.std.specs.Prelude.{◌≡◌, [], ◌+◌, ◌^◌, ◌≤◌, ◌<◌, length};
 ghost use Rattle.model.specs.Memory.{lengths_sum};
 ghost use Rattle.model.specs.Video.{fills};

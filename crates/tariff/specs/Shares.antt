@@ -9,8 +9,8 @@ use Rattle.model.specs.Sheet.{max_records}
 use Rattle.model.specs.BoardBytes.{answer_length}
 use Rattle.model.specs.Alike.{answer_start, cycles_from}
 use Rattle.model.specs.Tariff.{rate_cycles, max_rate, cost, charge, shares_after, share_length, shares_in, cycles_to}
-use Rattle.model.specs.Laws.Codec.{numbers_length, put_before}
-use Rattle.model.specs.Laws.Charge.{cycles_length, cycles_further, cost_fits, charge_grows, shares_length}
+use Rattle.model.proofs.Laws.Codec.{numbers_length, put_before}
+use Rattle.model.proofs.Laws.Charge.{cycles_length, cycles_further, cost_fits, charge_grows, shares_length}
 
 -- ---- what is asked
 

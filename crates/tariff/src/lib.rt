@@ -1,4 +1,6 @@
 // The contract's tariff: what cycles cost at a rate, and each step's share of what a run costs. From document 02, W-202.
+#![tactic(auto)]
+
 ghost use Rattle.std.specs.Prelude.{◌≡◌};
 ghost use Rattle.model.specs.Alike.{cycles_from};
 ghost use Rattle.model.specs.Tariff as def;

@@ -5,7 +5,7 @@ ghost use Rattle.model.specs.DisableBug as def;
 
 use model::{AccessKind, Version};
 
-#[derive(Drop)]
+#[derive(Clone, Copy)]
 pub struct DisableBugInput {
     pub prefetch_enabled: bool,
     pub code_in_rom: bool,

@@ -1,5 +1,7 @@
 // The price of an instruction and of a data access. Port of src/cpu/timing.rs; `disable_bug` is src/bus/disable_bug.rs. The data
 // price is document 01's addition. The state goes in by value; nothing here reads a memory.
+#![tactic(auto)]
+
 ghost use Rattle.std.specs.Prelude.{◌≡◌};
 ghost use Rattle.model.specs.Region.{decode};
 ghost use Rattle.model.specs.Wait.{window as windowOf, kind_at};
@@ -19,7 +21,7 @@ use model::{
 pub mod disable_bug;
 
 // The Rust's `(u32, u32)`: the cycles of a fetch, and those of them in which the cartridge bus is free.
-#[derive(Drop)]
+#[derive(Clone, Copy)]
 pub struct FetchPrice {
     pub cycles: u32,
     pub cart_idle: u32,

@@ -1,7 +1,7 @@
 -- What becomes of a store to video memory, by what it meets there and by its size.
 -- From GBATEK, "GBA Unpredictable Things" (8-bit writes to video memory); src/bus/video.rs.
 use Rattle.std.specs.Prelude.{Bool, true, false, ℕ, ◌*◌, ltb}
-use Rattle.model.specs.Base.{if◌then◌else◌}
+use Rattle.std.specs.Prelude.{if◌then◌else◌}
 use Rattle.model.specs.Region.{vram_size}
 use Rattle.model.specs.Video.{is_obj_vram}
 use Rattle.model.specs.declared.AccessSize.{AccessSize}

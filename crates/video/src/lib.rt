@@ -1,4 +1,6 @@
 // Video memory: where object VRAM starts, and what becomes of a store by its size. Port of src/bus/video.rs.
+#![tactic(auto)]
+
 ghost use Rattle.std.specs.Prelude.{◌≡◌};
 ghost use Rattle.model.specs.Video as rules;
 ghost use Rattle.video.specs.Actions as actions;
@@ -11,7 +13,7 @@ pub const OBJ_VRAM_BASE_TILE: u32 = 0x1_0000;
 pub const OBJ_VRAM_BASE_BITMAP: u32 = 0x1_4000;
 
 // What a store to video memory meets.
-#[derive(Drop)]
+#[derive(Clone, Copy)]
 pub enum VideoTarget {
     Palette,
     Oam,
@@ -20,14 +22,14 @@ pub enum VideoTarget {
 }
 
 // `Option<VideoTarget>`: VRAM ends at 96 KiB.
-#[derive(Drop)]
+#[derive(Clone, Copy)]
 pub enum VramTarget {
     Within(VideoTarget),
     Outside,
 }
 
 // What becomes of the store: all of it lands, its byte fills a halfword, it is dropped, or its size is refused.
-#[derive(Drop)]
+#[derive(Clone, Copy)]
 pub enum VideoWriteAction {
     Store,
     ExpandByteToHalfword { halfword: u16 },

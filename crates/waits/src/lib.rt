@@ -1,6 +1,8 @@
 // Access kinds, ROM windows and the cycles of one access. Port of src/bus/wait.rs; `waitcnt` is src/bus/waitcnt.rs. The Rust's
 // `WaitTables` is two values here: the waits of the ROM, an array of three windows by two kinds, and the SRAM waits. EWRAM's
 // waits never change.
+#![tactic(auto)]
+
 ghost use Rattle.std.specs.Prelude.{◌≡◌};
 ghost use Rattle.model.specs.Waitcnt as reg;
 ghost use Rattle.model.specs.Wait as def;
@@ -17,7 +19,7 @@ pub const ROM_FORCE_N_BLOCK: u32 = 0x2_0000;
 pub const EWRAM_DEFAULT_WAITS: u8 = 2;
 
 // The SRAM waits, as the Rust's `WaitTables` holds them. Ported for completeness: nothing uses it yet.
-#[derive(Drop)]
+#[derive(Clone, Copy)]
 pub struct WaitTables {
     pub sram_waits: u8,
 }

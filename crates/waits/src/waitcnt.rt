@@ -13,7 +13,7 @@ pub const POWER_ON: u16 = 0x0000;
 pub const COMMERCIAL_COMMON: u16 = 0x4317;
 
 // The register.
-#[derive(Drop)]
+#[derive(Clone, Copy)]
 pub struct WaitCnt {
     pub raw: u16,
 }

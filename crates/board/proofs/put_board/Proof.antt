@@ -4,7 +4,7 @@ use mathlib.Core.List.{[], ◌∷◌}
 use native.Mathlib.Omega.{arith}
 use borrow.Author.Rules.{rules}
 use Rattle.model.specs.BoardBytes.{board_bytes}
-use Rattle.model.specs.Laws.Codec.{numbers_length}
+use Rattle.model.proofs.Laws.Codec.{numbers_length}
 use Rattle.le.proofs.Written.{filled, lent, sized}
 use Rattle.board.proofs.put_board.Statement.{statement}
 use Rattle.board.proofs.put_board.Tie as tie

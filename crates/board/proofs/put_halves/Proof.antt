@@ -9,7 +9,7 @@ use lib.Seq.{take_all, take-suc}
 use borrow.Author.Rules.{rules}
 use borrow.Rule.Slice.PartMut.{put_mid}
 use Rattle.model.specs.Base.{bytes, numbers_bytes}
-use Rattle.model.specs.Laws.Codec.{numbers_snoc}
+use Rattle.model.proofs.Laws.Codec.{numbers_snoc}
 use Rattle.le.proofs.Written.{Begun, begin, next, written}
 use Rattle.board.proofs.put_halves.Statement.{statement}
 use Rattle.board.proofs.put_halves.Tie as tie

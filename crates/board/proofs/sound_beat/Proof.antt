@@ -4,10 +4,11 @@ use mathlib.Core.Bool.{Bool, true, false, not, ◌&&◌, ◌||◌}
 use lib.Dec.{leb}
 use borrow.Author.Rules.{rules}
 use borrow.Author.Tests.{not-true, not-false}
-use Rattle.model.specs.Base.{if◌then◌else◌, same}
+use Rattle.std.specs.Prelude.{if◌then◌else◌}
+use Rattle.model.specs.Base.{same}
 use Rattle.model.specs.Wait.{in_window}
 use Rattle.model.specs.BoardBytes.{sound_beat}
-use Rattle.model.specs.Laws.Choice.{if_true, if_false}
+use Rattle.model.proofs.Laws.Choice.{if_true, if_false}
 use Rattle.model.specs.declared.PrefetchBuffer.{PrefetchBuffer}
 use Rattle.board.proofs.sound_beat.Statement.{statement}
 use Rattle.board.proofs.sound_beat.Tie as tie

@@ -8,7 +8,7 @@ use lib.Dec.{eqb}
 use borrow.Author.Tests.{eqb-true, eq-eqb}
 use borrow.Author.Rules.{rules}
 use Rattle.model.specs.Base.{byte_at, number}
-use Rattle.model.specs.Laws.Choice.{by_test, and-true, parts, eqb_ne}
+use Rattle.model.proofs.Laws.Choice.{by_test, and-true, parts, eqb_ne}
 use Rattle.model.specs.BoardBytes.{sound_bytes}
 use Rattle.board.proofs.sound_bytes.Statement.{statement}
 use Rattle.board.proofs.sound_bytes.Tie as tie

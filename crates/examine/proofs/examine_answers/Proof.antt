@@ -2,7 +2,7 @@
 use mathlib.Core.Path.{sym}
 use borrow.Author.Tests.{lt-ltb, le-ltb}
 use native.Mathlib.Omega.{arith}
-use Rattle.model.specs.Laws.Rows.{row_holds, row_passes}
+use Rattle.model.proofs.Laws.Rows.{row_holds, row_passes}
 use Rattle.examine.proofs.examine_answers.Statement.{statement}
 use Rattle.examine.proofs.examine_answers.Tie as tie
 

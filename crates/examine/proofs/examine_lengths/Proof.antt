@@ -2,7 +2,7 @@
 use mathlib.Core.Path.{sym, ap, ◌∙◌}
 use mathlib.Core.Bool.{not}
 use borrow.Author.Rules.{rules}
-use Rattle.model.specs.Laws.Rows.{row_holds, row_passes}
+use Rattle.model.proofs.Laws.Rows.{row_holds, row_passes}
 use Rattle.examine.proofs.examine_lengths.Statement.{statement}
 use Rattle.examine.proofs.examine_lengths.Tie as tie
 

@@ -1,6 +1,6 @@
 -- `examine_rate` meets its contract: the test is its row's condition. Assumes nothing.
 use mathlib.Core.Path.{sym}
-use Rattle.model.specs.Laws.Rows.{row_holds, row_passes}
+use Rattle.model.proofs.Laws.Rows.{row_holds, row_passes}
 use Rattle.examine.proofs.examine_rate.Statement.{statement}
 use Rattle.examine.proofs.examine_rate.Tie as tie
 

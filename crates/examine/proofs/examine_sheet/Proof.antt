@@ -7,8 +7,8 @@ use lib.Dec.{ltb, leb}
 use borrow.Author.Tests.{lt-ltb, le-ltb, lt-leb, le-leb}
 use borrow.Author.Rules.{rules}
 use Rattle.model.specs.Sheet.{latest_version, knows, is_marked, version_of}
-use Rattle.model.specs.Laws.Choice.{by_test, tests}
-use Rattle.model.specs.Laws.Rows.{row_holds, row_passes}
+use Rattle.model.proofs.Laws.Choice.{by_test, tests}
+use Rattle.model.proofs.Laws.Rows.{row_holds, row_passes}
 use Rattle.examine.proofs.examine_sheet.Statement.{statement}
 use Rattle.examine.proofs.examine_sheet.Tie as tie
 

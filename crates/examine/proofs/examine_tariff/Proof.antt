@@ -5,7 +5,8 @@ use native.Mathlib.Omega.{arith}
 use borrow.Author.Rules.{rules}
 use Rattle.model.specs.Outcome.{Lent, second_rows}
 use Rattle.model.specs.Tariff.{share_length, rate_rows, tariff_verdict}
-use Rattle.model.specs.Laws.Rows.{or_else_of, first_append}
+use Rattle.model.specs.Laws.Rows.{or_else_of}
+use Rattle.model.proofs.Laws.Rows.{first_append}
 use Rattle.examine.specs.Lent.{lending}
 use Rattle.examine.proofs.examine_tariff.Statement.{statement}
 use Rattle.examine.proofs.examine_tariff.Tie as tie

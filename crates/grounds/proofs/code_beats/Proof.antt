@@ -1,7 +1,7 @@
 -- `code_beats` meets its contract: outside ROM one beat, in ROM one or two halves. Assumes nothing.
 use Rattle.std.proofs.Common.{◌≡◌, ℕ, Bool, false, eqb, List, ◌∷◌, replicate, sym, ap, ◌∙◌, ap₂, rules}
 use borrow.Author.Tests.{not-true, not-false}
-use Rattle.model.specs.Base.{if◌then◌else◌}
+use Rattle.std.specs.Prelude.{if◌then◌else◌}
 use Rattle.model.specs.Grounds.{ground_byte, half_ground}
 use Rattle.model.specs.declared.Ground.{Ground}
 use Rattle.grounds.specs.Trail.{front_hits}

@@ -1,9 +1,9 @@
 -- `data_beats` meets its contract: the digits of the page say what the bus does. Assumes nothing.
 use Rattle.std.proofs.Common.{◌≡◌, ℕ, ◌||◌, eqb, List, ◌∷◌, replicate, sym, ap, ◌∙◌, ap₂, ⊎_elim, rules, eq-eqb, ne_eqb}
-use Rattle.model.specs.Base.{if◌then◌else◌}
+use Rattle.std.specs.Prelude.{if◌then◌else◌}
 use Rattle.model.specs.Wait.{access_size_of, aligned}
 use Rattle.model.specs.Grounds.{ground_byte}
-use Rattle.model.specs.Laws.Choice.{if_true, if_false}
+use Rattle.model.proofs.Laws.Choice.{if_true, if_false}
 use Rattle.model.specs.declared.AccessSize.{AccessSize}
 use Rattle.grounds.specs.Trail.{ground_at}
 use Rattle.grounds.specs.Pages.{data_bytes}

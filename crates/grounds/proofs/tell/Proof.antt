@@ -2,7 +2,7 @@
 use Rattle.std.proofs.Common.{◌≡◌, ℕ, false, ◌||◌, eqb, ap, ◌∙◌, ap₂, rules, eq-eqb, ne_eqb, le-leb}
 use borrow.Author.Tests.{lt-leb}
 use Rattle.model.specs.Grounds.{beat_bytes}
-use Rattle.model.specs.Laws.Limits.{words_between}
+use Rattle.model.proofs.Laws.Limits.{words_between}
 use Rattle.grounds.specs.Trail.{trail, nowhere, block_from, block_next, beats_by, trail_after}
 use Rattle.grounds.proofs.tell.Statement.{statement}
 use Rattle.grounds.proofs.tell.Tie as tie

@@ -1,7 +1,7 @@
 -- `le::put64` meets its contract: the bytes of a number are those of its two halves. Assumes nothing.
 use mathlib.Core.Path.{◌∙◌, sym}
 use borrow.Author.Rules.{rules}
-use Rattle.model.specs.Laws.Codec.{bytes_add}
+use Rattle.model.proofs.Laws.Codec.{bytes_add}
 use Rattle.le.proofs.put64.Statement.{statement}
 use Rattle.le.proofs.put64.Tie as tie
 

@@ -1,7 +1,7 @@
 -- `read` meets its contract: an aligned load by its word where that stands, every other by its bytes. Assumes nothing.
 use Rattle.std.proofs.Common.{ℕ, ◌%◌, sym, ap, ◌∙◌, arith, rules}
 use Rattle.loads.specs.Bus.{bus}
-use Rattle.model.specs.Laws.Sizes.{some_bytes}
+use Rattle.model.proofs.Laws.Sizes.{some_bytes}
 use Rattle.loads.proofs.Arms.{meets_lies}
 use Rattle.loads.proofs.Words.{word_loads}
 use Rattle.loads.proofs.read.Statement.{statement}

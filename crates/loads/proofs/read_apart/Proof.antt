@@ -1,7 +1,7 @@
 -- `read_apart` meets its contract: 0 at once where nothing is lent, and else by the size. Assumes nothing.
 use Rattle.std.proofs.Common.{◌≡◌, ℕ, ◌%◌, true, eqb, length, sym, ap, ◌∙◌, arith, rules, eqb-true}
-use Rattle.model.specs.Laws.Choice.{parts}
-use Rattle.model.specs.Laws.Sizes.{some_bytes}
+use Rattle.model.proofs.Laws.Choice.{parts}
+use Rattle.model.proofs.Laws.Sizes.{some_bytes}
 use Rattle.model.specs.Load.{Bus}
 use Rattle.loads.specs.Bus.{bus}
 use Rattle.loads.proofs.Arms.{meets_lies, byte_is}

@@ -1,6 +1,7 @@
+-- Words of the laws in proofs/Laws/Figures.antt, as definitions. Those laws:
 -- The starred worked figures of document 01, joined as one theorem about the definitions. Each starts from the fresh board;
 -- where a figure is about a large memory, it holds whatever the memory held.
-use Rattle.std.specs.Prelude.{◌≡◌, refl, false, List, [], ◌∷◌, map, ℕ, set}
+use Rattle.std.specs.Prelude.{◌≡◌, false, List, [], ◌∷◌, map, ℕ, set}
 use Rattle.model.specs.Region.{decode}
 use Rattle.model.specs.Mirror.{ewram_offset, vram_offset, io_offset}
 use Rattle.model.specs.Waitcnt.{written, prefetch_enable, n_waits, s_waits, rom_waits_of}
@@ -107,25 +108,3 @@ pub record WorkedFigures : Type 0 where
   pub object_mode_0 : (vram : List ℕ) → Leaves 0 (vram_byte 0 vram 0x0601_0000) (0 ∷ vram)
   pub bitmap_mode_3 : (vram : List ℕ) → Leaves 1 (vram_byte 3 vram 0x0601_0000) (3 ∷ set (set vram 0x10000 0x5A) 0x10001 0x5A)
   pub object_mode_3 : (vram : List ℕ) → Leaves 0 (vram_byte 3 vram 0x0601_4000) (3 ∷ vram)
-
-pub worked_figures : WorkedFigures
-unfolding machine
-worked_figures =
-    record {
-      ewram_mirror = (refl, refl);
-      vram_mirror = (refl, refl);
-      waitcnt_bits = refl;
-      idle_27 = refl;
-      idle_28 = refl;
-      arm_in_block = refl;
-      arm_at_block = refl;
-      dearest = refl;
-      pop_at_bc = refl;
-      pop_at_ba = refl;
-      bx = refl;
-      sram_half = λ sram. refl;
-      rom_end = refl;
-      object_mode_0 = λ vram. (refl, refl);
-      bitmap_mode_3 = λ vram. (refl, refl);
-      object_mode_3 = λ vram. (refl, refl);
-    }

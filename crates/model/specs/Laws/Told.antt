@@ -1,24 +1,15 @@
+-- Words of the laws in proofs/Laws/Told.antt, as definitions. Those laws:
 -- W-201 and W-207, of bytes as lent: what byte 8 of a WRITE's or a BLOCK WRITE's answer tells of the store that the run leaves.
-use Rattle.std.specs.Prelude.{◌≡◌, List, ℕ, suc, ◌+◌, ◌*◌, ◌%◌, ◌≤◌, ◌<◌, length}
-use Rattle.std.proofs.Common.{sym, ap₂, ◌∙◌, arith, zero-add, take-suc}
-use Rattle.std.proofs.Math.Path.{ap}
-use Rattle.std.proofs.Math.Nat.{mod-eq_of_lt}
+use Rattle.std.specs.Prelude.{◌≡◌, List, ℕ, suc, ◌+◌, ◌*◌, ◌≤◌, ◌<◌, length}
 use Rattle.model.specs.Base.{byte_at}
 use Rattle.model.specs.Memory.{lengths_sum}
 use Rattle.model.specs.Store.{Put, landed, mode_of, puts}
-use Rattle.model.specs.Step.{State, run, block_stores, stepped, answer}
-use Rattle.model.specs.Sheet.{record_at, record_count, max_words, step_of, steps_of}
-use Rattle.model.specs.Outcome.{Lent, Outcome, media_of, first_state, outcome}
-use Rattle.model.specs.Alike.{state_at, answer_at, answer_start}
-use Rattle.model.specs.Laws.Run.{run_snoc}
-use Rattle.model.specs.Laws.Landed.{four_land, block_land, none_lands, Written, written, block_own, any_value, write_hits}
+use Rattle.model.specs.Step.{block_stores}
+use Rattle.model.specs.Outcome.{Lent, Outcome}
+use Rattle.model.specs.Alike.{state_at, answer_start}
+use Rattle.model.specs.Laws.Landed.{Written}
 use Rattle.model.specs.Laws.Choice.{All}
-use Rattle.model.specs.Laws.Limits.{short_step}
-use Rattle.model.specs.Laws.Demand3.{byte_there, step_there, step_is, accounts}
 use Rattle.model.specs.declared.AccessSize.{AccessSize}
-use Rattle.model.specs.declared.Lengths.{Lengths}
-use Rattle.model.specs.declared.Step.{Step}
-use Rattle.model.specs.declared.Step.TheVariants.{Write, Latch, BlockWrite}
 
 -- the bytes that a WRITE of step k lands, in the display mode of its moment
 abbrev pub puts_of : Lent → ℕ → AccessSize → ℕ → ℕ → List Put
@@ -39,44 +30,6 @@ pub record Told (i : Lent) (o : Outcome) (k : ℕ) (z : AccessSize) (a v : ℕ) 
   -- 0: the store is as it was
   pub none : hits_byte o k ≡ 0 → (state_at i (suc k)).store ≡ (state_at i k).store
 
--- one step more
-state_next : (i : Lent) (k : ℕ) → k < record_count i.sheet
-    → state_at i (suc k) ≡ stepped (media_of i) (state_at i k) (step_of (record_at i.sheet k))
-unfolding state_at
-state_next i k h =
-    ap (λ (xs : List Step). (run (media_of i) (first_state i) xs).state)
-    (take-suc (steps_of i.sheet) k (Latch 0) (step_there i k h))
-    ∙ ap (λ r. r.state) (run_snoc (media_of i) (first_state i) _ _)
-    ∙ ap (stepped (media_of i) (state_at i k)) (step_is i k h)
-
-module _ (i : Lent) (o : Outcome) (ok : o ≡ outcome i) (zero_number : o.number ≡ 0)
-    (k : ℕ) (h : k < record_count i.sheet) (z : AccessSize) (a v : ℕ) (e : step_of (record_at i.sheet k) ≡ Write z a v) where
-  -- few enough for a byte
-  number_is : hits_byte o k ≡ length (puts_of i k z a v)
-  unfolding answer_at
-  number_is =
-      byte_there o.answers k (answer_at i k) ((accounts i o ok zero_number).bytes k h) 8 (omega arith)
-      ∙ ap (λ (x : Step). (answer (media_of i) (state_at i k) x).hits % 256) e
-      ∙ ap (λ (n : ℕ). n % 256) (write_hits (media_of i) (state_at i k) z a v)
-      ∙ mod-eq_of_lt (omega (arith, four_land i.lengths (mode_of i.lengths (state_at i k).store) z a v))
-
-  store_is : (state_at i (suc k)).store ≡ landed (state_at i k).store (puts_of i k z a v)
-  store_is =
-      ap (λ (s : State). s.store) (state_next i k h)
-      ∙ ap (λ (x : Step). (stepped (media_of i) (state_at i k) x).store) e
-
-  pub told : Told i o k z a v
-  told =
-      record {
-        store = store_is;
-        places = written i.lengths _ z a v;
-        number = number_is;
-        most = rw number_is (four_land i.lengths _ z a v);
-        none = λ n. store_is ∙ none_lands (state_at i k).store (puts_of i k z a v) (sym number_is ∙ n);
-      }
-
--- ---- the same of a BLOCK WRITE
-
 -- the bytes that a BLOCK WRITE of step k lands, word by word
 abbrev pub block_puts : Lent → ℕ → ℕ → ℕ → List Put
 block_puts i k a n = (block_stores i.lengths (state_at i k).board.contents (state_at i k).store a n).puts
@@ -91,52 +44,3 @@ pub record BlockTold (i : Lent) (o : Outcome) (k a n : ℕ) : Type 0 where
   pub in_all : hits_byte o k ≤ 64
   -- 0: the store is as it was
   pub none : hits_byte o k ≡ 0 → (state_at i (suc k)).store ≡ (state_at i k).store
-
-module _ (i : Lent) (o : Outcome) (ok : o ≡ outcome i) (zero_number : o.number ≡ 0)
-    (k : ℕ) (h : k < record_count i.sheet) (a n : ℕ) (e : step_of (record_at i.sheet k) ≡ BlockWrite a n) where
-  abbrev landing : List Put
-  landing = block_puts i k a n
-
-  four_a_word : length landing ≤ 4 * n
-  four_a_word = block_land i.lengths (state_at i k).board.contents (state_at i k).store a n
-
-  few : n ≤ max_words
-  few = let s = (short_step (record_at i.sheet k)).short in rw e at s
-
-  block_number : hits_byte o k ≡ length landing
-  unfolding answer_at
-  block_number =
-      byte_there o.answers k (answer_at i k) ((accounts i o ok zero_number).bytes k h) 8 (omega arith)
-      ∙ ap (λ (x : Step). (answer (media_of i) (state_at i k) x).hits % 256) e
-      ∙ ap (λ (m : ℕ). m % 256) (zero-add (length landing))
-      ∙ mod-eq_of_lt (omega (arith, four_a_word, few))
-
-  block_store : (state_at i (suc k)).store ≡ landed (state_at i k).store landing
-  block_store =
-      ap (λ (s : State). s.store) (state_next i k h)
-      ∙ ap (λ (x : Step). (stepped (media_of i) (state_at i k) x).store) e
-
-  pub block_told : BlockTold i o k a n
-  block_told =
-      record {
-        store = block_store;
-        own = block_own i.lengths (state_at i k).board.contents (state_at i k).store a n;
-        number = block_number;
-        most = rw block_number four_a_word;
-        in_all = rw block_number (omega (arith, four_a_word, few));
-        none = λ z. block_store ∙ none_lands (state_at i k).store landing (sym block_number ∙ z);
-      }
-
--- ---- of two runs
-
--- whatever is stored by a WRITE and whatever their memories hold: equal lengths and one display mode give one number
-pub told_alike : (i j : Lent) (o p : Outcome) → o ≡ outcome i → p ≡ outcome j → o.number ≡ 0 → p.number ≡ 0
-    → (k : ℕ) → k < record_count i.sheet → k < record_count j.sheet
-    → (z : AccessSize) (a v u : ℕ) → step_of (record_at i.sheet k) ≡ Write z a v → step_of (record_at j.sheet k) ≡ Write z a u
-    → i.lengths ≡ j.lengths → mode_of i.lengths (state_at i k).store ≡ mode_of j.lengths (state_at j k).store
-    → hits_byte o k ≡ hits_byte p k
-told_alike i j o p e f m n k h l z a v u x y el em =
-    number_is i o e m k h z a v x
-    ∙ ap₂ (λ (ls : Lengths) (mode : ℕ). length (puts ls mode z a v)) el em
-    ∙ any_value j.lengths (mode_of j.lengths (state_at j k).store) z a v u
-    ∙ sym (number_is j p f n k l z a u y)

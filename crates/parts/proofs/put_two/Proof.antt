@@ -1,8 +1,8 @@
 -- `put_two` meets its contract: two bytes land, one behind the other, and it tells of both. Assumes nothing.
 use mathlib.Core.Path.{sym}
 use native.Mathlib.Omega.{arith}
-use Rattle.model.specs.Laws.Stores.{put_bytes_two}
-use Rattle.model.specs.Laws.Landed.{put_few}
+use Rattle.model.proofs.Laws.Stores.{put_bytes_two}
+use Rattle.model.proofs.Laws.Landed.{put_few}
 use Rattle.parts.specs.Stored.{same_puts, then_stores, then_fits}
 use borrow.Author.Rules.{rules}
 use Rattle.parts.proofs.put_two.Statement.{statement}

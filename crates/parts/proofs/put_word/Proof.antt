@@ -2,8 +2,8 @@
 use mathlib.Core.Path.{sym}
 use native.Mathlib.Omega.{arith}
 use Rattle.model.specs.Base.{lowered}
-use Rattle.model.specs.Laws.Stores.{put_bytes_four}
-use Rattle.model.specs.Laws.Landed.{bytes_few}
+use Rattle.model.proofs.Laws.Stores.{put_bytes_four}
+use Rattle.model.proofs.Laws.Landed.{bytes_few}
 use Rattle.parts.specs.Stored.{same_puts, then_stores, then_fits}
 use borrow.Author.Rules.{rules}
 use Rattle.parts.proofs.put_word.Statement.{statement}

@@ -1,7 +1,7 @@
 -- `prefetch::after_fetch` meets its contract: each return decides the definition's tests. Assumes nothing.
 use Rattle.std.proofs.Common.{◌≡◌, ℕ, true, false, sym, ◌∙◌, arith, rules}
 use Rattle.model.specs.Prefetch.{drained, hit, occupied, taken, fetched}
-use Rattle.model.specs.Laws.Rules.{hit_exactly}
+use Rattle.model.proofs.Laws.Rules.{hit_exactly}
 use Rattle.model.specs.declared.PrefetchBuffer.{PrefetchBuffer}
 use Rattle.prefetch.proofs.after_fetch.Statement.{statement}
 use Rattle.prefetch.proofs.after_fetch.Tie as tie

@@ -1,7 +1,7 @@
 -- `prefetch::end_beat` meets its contract: each return decides the definition's test on a full buffer. Assumes nothing.
 use Rattle.std.proofs.Common.{◌≡◌, ◌+◌, ◌<◌, ◌≤◌, sym, ap, ◌∙◌, arith, rules, le-ltb, lt-ltb}
 use Rattle.model.specs.Waitcnt.{Waits}
-use Rattle.model.specs.Laws.Choice.{if_true, if_false}
+use Rattle.model.proofs.Laws.Choice.{if_true, if_false}
 use Rattle.model.specs.declared.PrefetchBuffer.{PrefetchBuffer}
 use Rattle.model.specs.Prefetch.{start_beat, ended, arrived}
 use Rattle.prefetch.proofs.end_beat.Statement.{statement}

@@ -1,7 +1,7 @@
 -- `prefetch::set_enabled` meets its contract: by the two values of the switch, before and after. Assumes nothing.
 use Rattle.std.proofs.Common.{◌≡◌, Bool, true, false, sym, refl, ◌∙◌, rules}
 use mathlib.Core.Bool.{beq, false≢true}
-use Rattle.model.specs.Laws.Choice.{if_false}
+use Rattle.model.proofs.Laws.Choice.{if_false}
 use Rattle.model.specs.declared.PrefetchBuffer.{PrefetchBuffer}
 use Rattle.model.specs.Prefetch.{set_enabled}
 use Rattle.prefetch.proofs.set_enabled.Statement.{statement}

@@ -4,7 +4,7 @@ use native.Mathlib.Omega.{arith}
 use mathlib.Core.Path.{◌≡◌, sym, ap}
 use lib.Dec.{ltb}
 use Prim.Native.Nat.{ℕ, suc, zero-le, ◌≤◌, ◌<◌}
-use Rattle.model.specs.Base.{if◌then◌else◌}
+use Rattle.std.specs.Prelude.{if◌then◌else◌}
 use Rattle.model.specs.Region.{page, region_at, decode}
 use Rattle.model.specs.declared.Region.TheVariants.{GamePakRomWs0, GamePakRomWs1, GamePakRomWs2, GamePakSram, UnusedHigh}
 use Rattle.region.proofs.decode.Statement.{statement}

@@ -2,7 +2,7 @@
 -- Assumes nothing.
 use Rattle.std.proofs.Common.{◌≡◌, arith, rules}
 use Rattle.model.specs.Price.{previously, data_cycles}
-use Rattle.model.specs.Laws.Bounds.{data_between}
+use Rattle.model.proofs.Laws.Bounds.{data_between}
 use Rattle.model.specs.declared.AccessSize.TheVariants.{Word}
 use Rattle.step.specs.Access.{priceable, priced}
 use Rattle.step.specs.Block.{Pricing, begin_pricing, turn_pricing, end_pricing}

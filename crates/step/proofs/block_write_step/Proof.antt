@@ -2,7 +2,7 @@
 -- Assumes nothing.
 use Rattle.std.proofs.Common.{◌≡◌, ℕ, ◌%◌, length, sym, ap, ◌∙◌, mod-eq_of_lt, zero-add, arith, rules}
 use Rattle.model.specs.Step.{Changed, block_stores}
-use Rattle.model.specs.Laws.Landed.{block_land}
+use Rattle.model.proofs.Laws.Landed.{block_land}
 use Rattle.step.specs.Block.{no_value}
 use Rattle.step.proofs.block_write_step.Statement.{statement}
 use Rattle.step.proofs.block_write_step.Tie as tie

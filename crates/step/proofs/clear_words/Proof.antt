@@ -2,7 +2,7 @@
 -- measure is the words left. Assumes nothing.
 use Rattle.std.proofs.Common.{◌≡◌, ℕ, ◌≤◌, length, sym, ◌∙◌, arith, rules}
 use Rattle.model.specs.Memory.{target}
-use Rattle.model.specs.Laws.Places.{target_lies}
+use Rattle.model.proofs.Laws.Places.{target_lies}
 use Rattle.step.specs.Block.{Clearing, begin_clearing, turn_clearing, end_clearing, few_land}
 use Rattle.step.proofs.clear_words.Statement.{statement}
 use Rattle.step.proofs.clear_words.Tie as tie

@@ -3,7 +3,7 @@ use Rattle.std.proofs.Common.{ℕ, ◌∙◌, ap₂, rules}
 use Rattle.model.specs.Waitcnt.{Waits}
 use Rattle.model.specs.Wait.{kind_at}
 use Rattle.model.specs.Price.{price, previously, kind_after, data_beats_in}
-use Rattle.model.specs.Laws.Bounds.{rom_waits_small}
+use Rattle.model.proofs.Laws.Bounds.{rom_waits_small}
 use Rattle.step.proofs.data_price.Statement.{statement}
 use Rattle.step.proofs.data_price.Tie as tie
 

@@ -1,5 +1,5 @@
 -- `instruction_step` meets its contract: the price and the fetches make the step. Assumes nothing.
-use Rattle.model.specs.Laws.Bounds.{rom_waits_small}
+use Rattle.model.proofs.Laws.Bounds.{rom_waits_small}
 use Rattle.step.specs.Fetch.{instruct}
 use Rattle.std.proofs.Common.{rules}
 use Rattle.step.proofs.instruction_step.Statement.{statement}

@@ -4,8 +4,9 @@ use Rattle.std.proofs.Common.{◌≡◌, ℕ, ◌%◌, length, sym, refl, ap, �
 use Rattle.model.specs.Memory.{target_in, target}
 use Rattle.model.specs.Store.{puts, puts_at, landed, mode_of, video_count}
 use Rattle.model.specs.Step.{counted_at, count_store}
-use Rattle.model.specs.Laws.Landed.{four_land}
-use Rattle.model.specs.Laws.Places.{Lies, target_lies}
+use Rattle.model.proofs.Laws.Landed.{four_land}
+use Rattle.model.specs.Laws.Places.{Lies}
+use Rattle.model.proofs.Laws.Places.{target_lies}
 use Rattle.model.specs.declared.Target.{Target}
 use Rattle.model.specs.Price.{previous}
 use Rattle.step.specs.Access.{priceable, priced, remembered}

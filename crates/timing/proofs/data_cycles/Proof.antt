@@ -2,7 +2,8 @@
 use Rattle.std.proofs.Common.{◌≡◌, true, sym, ap, ◌∙◌, rules}
 use Rattle.model.specs.Region.{is_game_pak_rom}
 use Rattle.model.specs.Price.{SramBeat}
-use Rattle.model.specs.Laws.Window.{InRom, rom_region}
+use Rattle.model.specs.Laws.Window.{InRom}
+use Rattle.model.proofs.Laws.Window.{rom_region}
 use Rattle.timing.proofs.Beats.{one_beat, ewram_beats, video_beats}
 use Rattle.timing.proofs.data_cycles.Statement.{statement}
 use Rattle.timing.proofs.data_cycles.Tie as tie

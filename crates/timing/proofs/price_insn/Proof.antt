@@ -6,8 +6,8 @@ use Rattle.model.specs.Wait.{window}
 use Rattle.model.specs.Price.{price}
 use Rattle.model.specs.DisableBug.{force_next_fetch_nonseq}
 use Rattle.model.specs.Timing.{internal, fetch_beats_in, fetch_beats, cart_idle_of, disable_bug, price_insn}
-use Rattle.model.specs.Laws.Choice.{bit≤1}
-use Rattle.model.specs.Laws.Bounds.{fetch_between, idle_in≤6}
+use Rattle.model.proofs.Laws.Choice.{bit≤1}
+use Rattle.model.proofs.Laws.Bounds.{fetch_between, idle_in≤6}
 use Rattle.model.specs.declared.AccessKind.{AccessKind}
 use Rattle.timing.specs.declared.FetchPrice.{FetchPrice}
 use Rattle.timing.proofs.Beats.{Small}

@@ -4,7 +4,7 @@ use Rattle.std.proofs.Common.{◌≡◌, ℕ, ◌+◌, ap, ◌∙◌, arith, rul
 use Rattle.model.specs.Base.{further}
 use Rattle.model.specs.Price.{beat_cycles, price}
 use Rattle.model.specs.Timing.{half_beat, rom_beats}
-use Rattle.model.specs.Laws.Bounds.{fetch_between}
+use Rattle.model.proofs.Laws.Bounds.{fetch_between}
 use Rattle.model.specs.declared.AccessKind.TheVariants.{Seq}
 use Rattle.model.specs.declared.Windowed.TheVariants.{In}
 use Rattle.model.specs.declared.IsaState.TheVariants.{Arm}

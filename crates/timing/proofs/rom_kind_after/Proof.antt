@@ -3,8 +3,8 @@
 use Rattle.std.proofs.Common.{true, sym, ap, ◌∙◌, rules, eq-eqb, ne_eqb}
 use Rattle.model.specs.Wait.{classify_access}
 use Rattle.model.specs.Price.{previously, kind_after}
-use Rattle.model.specs.Laws.Choice.{if_true}
-use Rattle.model.specs.Laws.Previous.{rom_kind}
+use Rattle.model.proofs.Laws.Choice.{if_true}
+use Rattle.model.proofs.Laws.Previous.{rom_kind}
 use Rattle.model.specs.declared.AccessSize.{AccessSize}
 use Rattle.timing.proofs.rom_kind_after.Statement.{statement}
 use Rattle.timing.proofs.rom_kind_after.Tie as tie

@@ -1,6 +1,6 @@
 -- `aligned` meets its contract: an address is lowered by its remainder. Assumes nothing.
 use Rattle.std.proofs.Common.{ℕ, ◌-◌, ◌%◌, sym, ap, ◌∙◌, arith, rules}
-use Rattle.model.specs.Laws.Sizes.{some_bytes, remainder≤, aligned_sub}
+use Rattle.model.proofs.Laws.Sizes.{some_bytes, remainder≤, aligned_sub}
 use Rattle.waits.proofs.aligned.Statement.{statement}
 use Rattle.waits.proofs.aligned.Tie as tie
 

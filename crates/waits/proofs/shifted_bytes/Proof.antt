@@ -1,6 +1,6 @@
 -- `shifted_bytes` meets its contract: the bytes of a size are a power of two. Assumes nothing.
 use Rattle.std.proofs.Common.{ℕ, ◌*◌, ◌%◌, ◌^◌, ap, ◌∙◌, arith, rules}
-use Rattle.model.specs.Laws.Sizes.{log2≤2, bytes_shifted}
+use Rattle.model.proofs.Laws.Sizes.{log2≤2, bytes_shifted}
 use Rattle.waits.proofs.shifted_bytes.Statement.{statement}
 use Rattle.waits.proofs.shifted_bytes.Tie as tie
 

@@ -1,6 +1,6 @@
 -- `waits::window_from_addr` meets its contract: each arm of the match decides the definition's tests. Assumes nothing.
 use Rattle.std.proofs.Common.{◌≡◌, ℕ, ◌<◌, ◌≤◌, ltb, arith, le-ltb, lt-ltb}
-use Rattle.model.specs.Base.{if◌then◌else◌}
+use Rattle.std.specs.Prelude.{if◌then◌else◌}
 use Rattle.model.specs.Region.{page}
 use Rattle.model.specs.Wait.{window}
 use Rattle.model.specs.declared.RomWindow.TheVariants.{Ws0, Ws1, Ws2}

@@ -8,7 +8,7 @@ use borrow.Author.Rules.{rules}
 use borrow.Rule.Slice.PartMut.{mid_len}
 use Rattle.model.specs.Step.{Media, State}
 use Rattle.model.specs.Sheet.{record_at, step_of}
-use Rattle.model.specs.Laws.Limits.{short_step}
+use Rattle.model.proofs.Laws.Limits.{short_step}
 use Rattle.step.specs.Begun.{media_from, state_from}
 use Rattle.bts.specs.Beginning.{Going, begin, turn, same_room}
 use Rattle.bts.proofs.run.run_core.Statement.{statement}

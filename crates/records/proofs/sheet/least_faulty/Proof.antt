@@ -11,7 +11,7 @@ use borrow.Author.Rules.{rules}
 use borrow.Author.Tests.{ltb-false}
 use Rattle.model.specs.Sheet.{last_kind, size_fits, faulty}
 use Rattle.model.specs.declared.SheetRecord.{SheetRecord}
-use Rattle.model.specs.Laws.Choice.{or_false_left, or_false_right}
+use Rattle.model.proofs.Laws.Choice.{or_false_left, or_false_right}
 use Rattle.records.specs.FieldLimits.{limits_from}
 use Rattle.records.proofs.Search.{version_at, Sought, Looked, none_sought, found, passed, all_sought}
 use Rattle.records.proofs.KindRows.{kind_rows, last≤11, beyond_fault, breaks, row_fault}

@@ -1,6 +1,6 @@
 -- The prefetch reads by the bus's halfword load, and only at even addresses inside the ROM windows, where that is a read of
 -- the image: what it fills in depends on no other memory.
-use Rattle.std.specs.Prelude.{◌≡◌, refl, true, false, not, ◌&&◌, List, ℕ, zero, suc, ◌+◌, ◌*◌, ◌%◌, set, ltb}
+use Rattle.std.specs.Prelude.{◌≡◌, refl, true, not, ◌&&◌, List, ℕ, zero, suc, ◌+◌, ◌*◌, ◌%◌, set, ltb}
 use Rattle.std.proofs.Common.{ap, ap₂, ◌∙◌, arith}
 use Rattle.model.specs.Base.{further, byte_at}
 use Rattle.model.specs.Region.{page, decode}
@@ -10,10 +10,12 @@ use Rattle.model.specs.Wait.{in_window}
 use Rattle.model.specs.Prefetch.{capacity, ready, tick1, arrives, slot, filled}
 use Rattle.model.specs.Memory.{target_in, target, is_sram}
 use Rattle.model.specs.Load.{Bus, byte_from, load8, load16, rom_halfword}
-use Rattle.model.specs.Laws.Choice.{choose, choose₂, if_false, parts, tests}
-use Rattle.model.specs.Laws.Window.{InRom, in_window_true}
+use Rattle.model.proofs.Laws.Choice.{choose, choose₂, if_false, parts, tests}
+use Rattle.model.specs.Laws.Window.{InRom}
+use Rattle.model.proofs.Laws.Window.{in_window_true}
 use Rattle.model.specs.Laws.Bounds.{SmallWaits}
-use Rattle.model.specs.Laws.Sound.{Sound, tick1_sound}
+use Rattle.model.specs.Laws.Sound.{Sound}
+use Rattle.model.proofs.Laws.Sound.{tick1_sound}
 use Rattle.model.specs.declared.PrefetchBuffer.{PrefetchBuffer}
 use Rattle.model.specs.declared.Region.{Region}
 use Rattle.model.specs.declared.Lengths.{Lengths}

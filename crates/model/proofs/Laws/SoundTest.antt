@@ -6,9 +6,10 @@ use Rattle.model.specs.Base.{same}
 use Rattle.model.specs.Wait.{in_window}
 use Rattle.model.specs.Prefetch.{new_buffer}
 use Rattle.model.specs.BoardBytes.{sound_prefetch, sound_beat, sound_row, is_zero}
-use Rattle.model.specs.Laws.Choice.{choose, by_test, if_true, if_false, tests, parts}
-use Rattle.model.specs.Laws.Choice.{and-true, or_true_left, or_true_right, or_right}
-use Rattle.model.specs.Laws.Window.{InRom, in_window_true, true_in_window}
+use Rattle.model.proofs.Laws.Choice.{choose, by_test, if_true, if_false, tests, parts}
+use Rattle.model.proofs.Laws.Choice.{and-true, or_true_left, or_true_right, or_right}
+use Rattle.model.specs.Laws.Window.{InRom}
+use Rattle.model.proofs.Laws.Window.{in_window_true, true_in_window}
 use Rattle.model.specs.Laws.Sound.{Sound, Busy, Stands}
 use Rattle.model.specs.declared.PrefetchBuffer.{PrefetchBuffer}
 

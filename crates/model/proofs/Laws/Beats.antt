@@ -8,14 +8,15 @@ use Prim.Native.Nat.{ℕ, zero, suc, ◌+◌, ◌-◌, ◌≤◌, ◌<◌}
 use Rattle.std.proofs.Math.Nat.{sub-zero}
 use Rattle.std.proofs.Math.Dec.{ltb, leb}
 use borrow.Author.Tests.{le-leb, lt-leb}
-use Rattle.model.specs.Base.{if◌then◌else◌, further}
+use Rattle.std.specs.Prelude.{if◌then◌else◌}
+use Rattle.model.specs.Base.{further}
 use Rattle.model.specs.Waitcnt.{Waits}
 use Rattle.model.specs.Wait.{window, is_in, in_window}
 use Rattle.model.specs.Prefetch.{capacity, beat_in, start_beat, arrived, ended, with_wait}
 use Rattle.model.specs.Prefetch.{advance, ready, tick1, ticks, arrives, slot, filled}
-use Rattle.model.specs.Laws.Choice.{choose, either, by_test, if_true, if_false, never, and-true, and_true_right, parts}
-use Rattle.model.specs.Laws.Switch.{ready_switch}
-use Rattle.model.specs.Laws.Rules.{ticks_rest, tick1_off}
+use Rattle.model.proofs.Laws.Choice.{choose, either, by_test, if_true, if_false, never, and-true, and_true_right, parts}
+use Rattle.model.proofs.Laws.Switch.{ready_switch}
+use Rattle.model.proofs.Laws.Rules.{ticks_rest, tick1_off}
 use Rattle.model.specs.declared.PrefetchBuffer.{PrefetchBuffer}
 use Rattle.model.specs.declared.Windowed.{Windowed}
 use Rattle.model.specs.declared.Windowed.TheVariants.{In, Outside}

@@ -1,10 +1,10 @@
 -- Access sizes and addresses lowered to a multiple of one, each fact for all three sizes.
-use Rattle.std.specs.Prelude.{◌≡◌, refl, true, false, ◌||◌, ℕ, ◌-◌, ◌*◌, ◌/◌, ◌%◌, ◌^◌, ◌≤◌, ◌<◌, eqb}
+use Rattle.std.specs.Prelude.{◌≡◌, refl, true, ◌||◌, ℕ, ◌-◌, ◌*◌, ◌%◌, ◌^◌, ◌≤◌, ◌<◌, eqb}
 use Rattle.std.proofs.Common.{sym, ◌∙◌, arith, mod-eq_of_lt, lit<, lit≤, eqb-true}
 use Rattle.std.proofs.Math.Path.{ap}
 use Rattle.model.specs.Base.{lowered}
 use Rattle.model.specs.Wait.{size_bytes_of, size_log2, access_size_of, aligned}
-use Rattle.model.specs.Laws.Choice.{choose, or_right, or-false}
+use Rattle.model.proofs.Laws.Choice.{choose, or_right, or-false}
 use Rattle.model.specs.Laws.Window.{InRom}
 use Rattle.model.specs.declared.AccessSize.{AccessSize}
 use Rattle.model.specs.declared.AccessSize.TheVariants.{Byte, Half, Word}
