@@ -29,6 +29,7 @@ pub const ROM_WINDOW_SIZE: usize = 0x200_0000;
 pub const SRAM_WINDOW_SIZE: usize = 0x10000;
 
 // The region of an address, by its top byte.
+#[tactic(auto, unfolding(model::specs::Region::decode))]
 pub fn decode(addr: u32) -> Region
     ensures { result ≡ map.decode addr }
 {

@@ -32,6 +32,7 @@ pub fn oam_offset(addr: u32) -> usize
 }
 
 // 128 KiB repeat: 64, 32, and the same 32 again.
+#[tactic(auto, unfolding(model::specs::Mirror::vram_offset))]
 pub fn vram_offset(addr: u32) -> usize
     ensures { result ≡ mirrored.vram_offset addr }
 {
@@ -64,6 +65,7 @@ pub fn sram_chip_offset(addr: u32) -> usize
 }
 
 // The registers stand once; the word at 0x800 repeats every 64 KiB.
+#[tactic(auto, unfolding(model::specs::Mirror::io_offset))]
 pub fn io_offset(addr: u32) -> Offset
     ensures { result ≡ mirrored.io_offset addr }
 {
@@ -81,6 +83,7 @@ pub fn io_offset(addr: u32) -> Offset
 }
 
 // The BIOS doesn't repeat. Ported for completeness: nothing calls it yet.
+#[tactic(auto, unfolding(model::specs::Mirror::bios_offset))]
 pub fn bios_offset(addr: u32) -> Offset
     ensures { result ≡ mirrored.bios_offset addr }
 {

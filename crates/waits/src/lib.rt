@@ -42,6 +42,7 @@ impl WaitTables {
     }
 
     // Ported for completeness: nothing calls it yet.
+    #[tactic(auto, unfolding(model::specs::Waitcnt::rom_waits_of))]
     pub fn rom_power_on() -> [[u8; 2]; 3]
         ensures { result ≡ reg.rom_waits_of reg.power_on }
     {
@@ -50,6 +51,7 @@ impl WaitTables {
 }
 
 // The waits of the ROM: three windows by two kinds, nonsequential and sequential.
+#[tactic(auto, unfolding(model::specs::Waitcnt::rom_waits_of))]
 pub fn rom_waits(register: WaitCnt) -> [[u8; 2]; 3]
     ensures { result ≡ reg.rom_waits_of register.raw }
 {
@@ -63,6 +65,7 @@ pub fn rom_waits(register: WaitCnt) -> [[u8; 2]; 3]
 }
 
 // `RomWindow::from_addr`: the ROM window of an address, by its top byte.
+#[tactic(auto, unfolding(model::specs::Wait::window))]
 pub fn window_from_addr(addr: u32) -> Windowed
     ensures { result ≡ def.window addr }
 {
@@ -96,6 +99,7 @@ pub fn size_bytes(size: AccessSize) -> u32
 }
 
 // Back from the bytes, where they are 1, 2 or 4.
+#[tactic(auto, unfolding(model::specs::Wait::access_size_of))]
 pub fn access_size(bytes: u32) -> AccessSize
     ensures { result ≡ def.access_size_of bytes }
 {
@@ -127,6 +131,7 @@ pub fn shifted_bytes(size: AccessSize) -> u32
 }
 
 // An address lowered to a multiple of a size.
+#[tactic(auto, unfolding(model::specs::Wait::aligned))]
 pub fn aligned(size: AccessSize, addr: u32) -> u32
     ensures { result ≡ def.aligned size addr }
 {
@@ -159,6 +164,7 @@ pub fn nonseq_if(first: bool) -> AccessKind
 }
 
 // The kind of an access that follows one of size `prev_size` at `prev_addr`.
+#[tactic(auto, unfolding(model::specs::Wait::classify_access))]
 pub fn classify_access(
     prev_addr: u32,
     prev_size: AccessSize,
@@ -210,6 +216,7 @@ pub fn rom_half_waits(waits: [[u8; 2]; 3], window: RomWindow, kind: AccessKind) 
 }
 
 // One halfword from ROM.
+#[tactic(auto, unfolding(model::specs::Wait::rom_half_cycles))]
 pub fn rom_half_cycles(waits: [[u8; 2]; 3], window: RomWindow, kind: AccessKind) -> u32
     ensures { result ≡ def.rom_half_cycles waits window kind }
 {
@@ -218,6 +225,7 @@ pub fn rom_half_cycles(waits: [[u8; 2]; 3], window: RomWindow, kind: AccessKind)
 
 // A word from ROM: two beats, the second sequential. The sum is over waits, which are bytes, so that it fits. Ported for
 // completeness: nothing calls it, since W-204 prices a word by its first half.
+#[tactic(auto, unfolding(model::specs::Wait::rom_half_cycles))]
 pub fn rom_word_cycles(waits: [[u8; 2]; 3], window: RomWindow, first: AccessKind) -> u32
     ensures { result ≡ def.rom_word_cycles waits window first }
 {
@@ -227,6 +235,7 @@ pub fn rom_word_cycles(waits: [[u8; 2]; 3], window: RomWindow, first: AccessKind
 }
 
 // One halfword from ROM, under the rule of the 128 KiB block.
+#[tactic(auto, unfolding(model::specs::Wait::kind_at, model::specs::Wait::rom_half_cycles))]
 pub fn rom_half_cycles_at(
     waits: [[u8; 2]; 3],
     addr: u32,

@@ -19,6 +19,7 @@ pub struct WaitCnt {
 }
 
 // The waits of a first access by two bits.
+#[tactic(auto, unfolding(model::specs::Waitcnt::n_waits))]
 fn n_waits(bits: u16) -> u8
     ensures { result ≡ def.n_waits bits }
 {
@@ -31,6 +32,7 @@ fn n_waits(bits: u16) -> u8
 }
 
 // The waits of a second access: 1 where the bit is set, else the slow value.
+#[tactic(auto, unfolding(model::specs::Waitcnt::s_waits))]
 fn s_waits(slow: u8, bits: u16) -> u8
     ensures { result ≡ def.s_waits slow bits }
 {
@@ -46,6 +48,7 @@ impl WaitCnt {
     }
 
     // The register that holds a value: bit 13 is cleared. Ported for completeness: nothing calls it yet.
+    #[tactic(auto, unfolding(model::specs::Waitcnt::from_u16))]
     pub fn from_u16(value: u16) -> WaitCnt
         ensures { result.raw ≡ def.from_u16 value }
     {
@@ -83,6 +86,7 @@ impl WaitCnt {
     }
 
     // Bit 14: the prefetch switch.
+    #[tactic(auto, unfolding(model::specs::Waitcnt::prefetch_enable))]
     pub fn prefetch_enable(self) -> bool
         ensures { result ≡ def.prefetch_enable self.raw }
     {
