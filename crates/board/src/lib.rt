@@ -29,6 +29,7 @@ fn load_prefetch(board: &[u8], enabled: bool) -> PrefetchBuffer
     }
 }
 
+#[tactic(auto, unfolding(model::specs::BoardBytes::clock_of))]
 pub fn load_clock(board: &[u8]) -> Clock
     requires { length board.now ≡ def.board_length }
     ensures { result ≡ def.clock_of board.now }
@@ -62,6 +63,7 @@ pub fn load_halves(board: &[u8]) -> [u16; 8]
     ]
 }
 
+#[tactic(auto, unfolding(model::specs::BoardBytes::contents_of))]
 pub fn load_contents(board: &[u8]) -> Contents
     requires { length board.now ≡ def.board_length }
     ensures { result ≡ def.contents_of board.now }
@@ -78,6 +80,7 @@ pub fn load_contents(board: &[u8]) -> Contents
 // ---- soundness
 
 // Filling is 1 exactly when wait left is at least 1; then there is room, and next address lies in a ROM window.
+#[tactic(auto, unfolding(model::specs::BoardBytes::sound_beat))]
 fn sound_beat(p: PrefetchBuffer) -> bool
     ensures { result ≡ def.sound_beat p }
 {
@@ -88,6 +91,7 @@ fn sound_beat(p: PrefetchBuffer) -> bool
 }
 
 // The halfwords that stand run from head address to next address.
+#[tactic(auto, unfolding(model::specs::BoardBytes::sound_row))]
 fn sound_row(p: PrefetchBuffer) -> bool
     requires { p.count ≤ 8 }
     ensures { result ≡ def.sound_row p }
@@ -102,6 +106,7 @@ fn sound_row(p: PrefetchBuffer) -> bool
 }
 
 // What prefetch off asks.
+#[tactic(auto, unfolding(model::specs::BoardBytes::is_zero))]
 fn is_zero(p: PrefetchBuffer) -> bool
     ensures { result ≡ def.is_zero p }
 {
@@ -115,6 +120,7 @@ fn is_zero(p: PrefetchBuffer) -> bool
 }
 
 // The count comes first: the sum of the row must not wrap.
+#[tactic(auto, unfolding(model::specs::BoardBytes::sound_prefetch))]
 fn sound_prefetch(p: PrefetchBuffer) -> bool
     ensures { result ≡ def.sound_prefetch p }
 {
@@ -130,6 +136,7 @@ fn sound_prefetch(p: PrefetchBuffer) -> bool
 }
 
 // The previous data access: with size 0 its address is 0, otherwise a multiple of its size, which is 1, 2 or 4 (W-204).
+#[tactic(auto, unfolding(model::specs::BoardBytes::sound_previous))]
 fn sound_previous(addr: u32, size: u32) -> bool
     ensures { result ≡ def.sound_previous (previously addr size) }
 {
@@ -140,6 +147,7 @@ fn sound_previous(addr: u32, size: u32) -> bool
 }
 
 // Zero bytes are zero, flags are 0 or 1, and WAITCNT bit 13 is clear.
+#[tactic(auto, unfolding(model::specs::BoardBytes::sound_bytes))]
 fn sound_bytes(board: &[u8]) -> bool
     requires { length board.now ≡ def.board_length }
     ensures { result ≡ def.sound_bytes board.now }
@@ -153,6 +161,7 @@ fn sound_bytes(board: &[u8]) -> bool
 }
 
 // Whether bytes are a sound board, of whatever length they are.
+#[tactic(auto, unfolding(model::specs::BoardBytes::sound))]
 pub fn is_sound(board: &[u8]) -> bool
     ensures { result ≡ def.sound board.now }
 {
@@ -233,6 +242,7 @@ fn put_previous(out: &mut [u8], addr: u32, size: u32)
 }
 
 // The whole board, written over what stood there.
+#[tactic(auto, unfolding(model::specs::BoardBytes::board_bytes))]
 pub fn put_board(board: &mut [u8], clock: Clock, halves: [u16; 8], contents: Contents)
     requires { length board.old ≡ def.board_length }
     ensures { board.new ≡ def.board_bytes (record { clock = clock; halves = halves; contents = contents }) }
@@ -248,6 +258,7 @@ pub fn put_board(board: &mut [u8], clock: Clock, halves: [u16; 8], contents: Con
 }
 
 // The bytes of a fresh board.
+#[tactic(auto, unfolding(model::specs::BoardBytes::board_bytes))]
 pub fn fresh() -> [u8; BOARD_LENGTH]
     ensures { result ≡ def.board_bytes def.fresh_board }
 {

@@ -1,6 +1,6 @@
-// The run of a sheet over a lent board and lent memories, exported to C as `bts_run`, the same under a tariff, exported as
-// `bts_run_tariff`, and with the grounds of its prices, exported as `bts_run_grounds`, and the price of a sheet before it is run,
-// exported as `bts_preview`. include/bts.h documents them for C.
+// The run of a sheet over a lent board and lent memories, `bts_run`, the same under a tariff, `bts_run_tariff`, and with the
+// grounds of its prices, `bts_run_grounds`, and the price of a sheet before it is run, `bts_preview`. The crate `bts_c` exports
+// them to C under these names.
 #![tactic(auto)]
 
 mod run;
@@ -79,8 +79,7 @@ fn run_accepted(
     }
 }
 
-#[unsafe(no_mangle)]
-pub extern "C" fn bts_run(
+pub fn bts_run(
     sheet: &[u8],
     board: &mut [u8],
     store: &mut [u8],
@@ -180,8 +179,7 @@ fn bill_examined(
     }
 }
 
-#[unsafe(no_mangle)]
-pub extern "C" fn bts_run_tariff(
+pub fn bts_run_tariff(
     sheet: &[u8],
     board: &mut [u8],
     store: &mut [u8],
@@ -270,8 +268,7 @@ fn explain_examined(
     }
 }
 
-#[unsafe(no_mangle)]
-pub extern "C" fn bts_run_grounds(
+pub fn bts_run_grounds(
     sheet: &[u8],
     board: &mut [u8],
     store: &mut [u8],
@@ -313,7 +310,7 @@ fn preview_accepted(sheet: &[u8], board: &[u8], answers: &mut [u8]) -> Report
         ≡ preview_by (asking sheet.now board.now answers.old) Accepted }
 {
     let mut spare = [0u8; BOARD_LENGTH];
-    bytes::copy(board, &mut spare);
+    spare.copy_from_slice(board);
     let mut store = [0u8; 0];
     let report = run_accepted(
         sheet,
@@ -345,10 +342,8 @@ fn preview_examined(sheet: &[u8], board: &[u8], answers: &mut [u8]) -> Report
 }
 
 // At its end sheet and board are as they were, and the contract says so.
-#[unsafe(no_mangle)]
-pub extern "C" fn bts_preview(sheet: &[u8], board: &[u8], answers: &mut [u8]) -> Report
-    ensures { reported_preview result sheet.now board.now answers.new
-        ≡ preview (asking sheet.now board.now answers.old) }
+pub fn bts_preview(sheet: &[u8], board: &[u8], answers: &mut [u8]) -> Report
+    ensures { reported_preview result sheet.now board.now answers.new ≡ preview (asking sheet.now board.now answers.old) }
 {
     preview_examined(sheet, board, answers)
 }

@@ -120,6 +120,7 @@ pub fn target_in(region: Region, addr: u32, lengths: Lengths) -> Target
     }
 }
 
+#[tactic(auto, unfolding(model::specs::Memory::target))]
 pub fn target_of(addr: u32, lengths: Lengths) -> Target
     requires { def.lengths_sum lengths < 2 ^ 64 }
     ensures { result ≡ def.target lengths addr }
@@ -143,6 +144,7 @@ pub fn is_sram(target: Target) -> bool
 
 // ---- a memory as its part of the store, lent on: past its end a load gives 0 and a store is dropped
 
+#[tactic(auto, unfolding(model::specs::Memory::byte_in))]
 pub fn byte_in(store: &[u8], part: Part, index: usize) -> u8
     requires { part.base + part.size ≤ length store.now }
     ensures { result ≡ def.byte_in store.now part index }
@@ -174,6 +176,7 @@ impl Stored {
 }
 
 // The leaf: it is lent a memory, and writes one byte of it or none.
+#[tactic(auto, unfolding(model::specs::Store::put))]
 fn write_slice(buf: &mut [u8], index: usize, value: u8) -> Stored
     ensures { Stores (put (whole buf.old) index value) 0 buf.old buf.new result }
 {
@@ -191,6 +194,7 @@ fn write_slice(buf: &mut [u8], index: usize, value: u8) -> Stored
 }
 
 // A byte.
+#[tactic(auto, unfolding(model::specs::Store::put))]
 pub fn put(store: &mut [u8], part: Part, index: usize, value: u8) -> Stored
     requires { part.base + part.size ≤ length store.old }
     ensures { Stores (put part index value) 0 store.old store.new result }
@@ -201,6 +205,7 @@ pub fn put(store: &mut [u8], part: Part, index: usize, value: u8) -> Stored
 }
 
 // The two low bytes of a value, from an index on.
+#[tactic(auto, unfolding(model::specs::Store::put))]
 fn put_two(store: &mut [u8], part: Part, index: usize, value: u32) -> Stored
     requires { (part.base + part.size ≤ length store.old) × (index + 1 < 2 ^ 64) }
     ensures { Stores (put_bytes part index 2 value) 0 store.old store.new result }
@@ -211,6 +216,7 @@ fn put_two(store: &mut [u8], part: Part, index: usize, value: u32) -> Stored
 }
 
 // A halfword, aligned: `write16_video_raw`, for every memory.
+#[tactic(auto, unfolding(model::specs::Store::put))]
 pub fn put_half(store: &mut [u8], part: Part, index: usize, value: u32) -> Stored
     requires { part.base + part.size ≤ length store.old }
     ensures { Stores (put_aligned part index 2 value) 0 store.old store.new result }
@@ -219,6 +225,7 @@ pub fn put_half(store: &mut [u8], part: Part, index: usize, value: u32) -> Store
 }
 
 // A word, aligned.
+#[tactic(auto, unfolding(model::specs::Store::put))]
 pub fn put_word(store: &mut [u8], part: Part, index: usize, value: u32) -> Stored
     requires { part.base + part.size ≤ length store.old }
     ensures { Stores (put_aligned part index 4 value) 0 store.old store.new result }

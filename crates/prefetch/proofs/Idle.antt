@@ -1,6 +1,6 @@
 -- Idle cycles as the code takes them, as laws on plain variables: none, some of a beat in flight, and the turns of a loop each of
 -- which takes a beat, or what is left of the cycles. `p`, `q` and `r` are buffers, `h` and `k` their halfwords, `n` cycles.
-use Rattle.std.proofs.Common.{◌≡◌, ℕ, ◌+◌, ◌-◌, ◌<◌, ◌≤◌, true, false, not, List, set, sym, refl, ap, ◌∙◌, ap₂, arith}
+use Rattle.std.proofs.Common.{◌≡◌, ℕ, zero, suc, ◌+◌, ◌-◌, ◌<◌, ◌≤◌, true, false, not, List, set, sym, refl, ap, ◌∙◌, ap₂, arith}
 use borrow.Author.Tests.{not-true, not-false}
 use Rattle.model.specs.Waitcnt.{Waits}
 use Rattle.model.specs.Load.{rom_halfword}
@@ -15,6 +15,54 @@ use Rattle.model.proofs.Laws.Beats as beats
 use Rattle.model.specs.declared.PrefetchBuffer.{PrefetchBuffer}
 use Rattle.prefetch.specs.InFlight.{InFlight}
 use Rattle.prefetch.specs.Ticked.{Ticked}
+
+-- ---- as the tactics use them
+
+-- cycles within the beat in flight, and all that it has left
+pub ruleset beat_laws = (beats.ticks_within, beats.filled_within, beats.ticks_beat, beats.filled_beat)
+
+-- no cycles
+pub ticks_none : (t : Waits) (n : ℕ) (p : PrefetchBuffer) → n ≤ 0 → ticks t n p ≡ p
+unfolding ticks
+ticks_none t zero p e = refl
+ticks_none t (suc n) p e = absurd (omega arith)
+
+pub filled_none : (read : ℕ → ℕ) (t : Waits) (n : ℕ) (p : PrefetchBuffer) (h : List ℕ) → n ≤ 0 → filled read t n p h ≡ h
+unfolding filled
+filled_none read t zero p h e = refl
+filled_none read t (suc n) p h e = absurd (omega arith)
+
+-- some of the cycles, and the rest of them
+pub ticks_split : (t : Waits) (a n : ℕ) (p : PrefetchBuffer) → a ≤ n → ticks t (n - a) (ticks t a p) ≡ ticks t n p
+ticks_split t a n p h =
+    let whole : a + (n - a) ≡ n = omega arith in rw (← ticks_add t a (n - a) p, whole)
+
+pub filled_split : (read : ℕ → ℕ) (t : Waits) (a n : ℕ) (p : PrefetchBuffer) (h : List ℕ) → a ≤ n
+    → filled read t (n - a) (ticks t a p) (filled read t a p h) ≡ filled read t n p h
+filled_split read t a n p h k =
+    let whole : a + (n - a) ≡ n = omega arith in rw (← filled_add read t a (n - a) p h, whole)
+
+-- no cycles, the switch is off, or no beat is in flight and none waits to start; and the first of the cycles starts one
+pub ruleset idle_laws = (
+  ticks_none,
+  filled_none,
+  off_stays,
+  beats.filled_off,
+  beats.ticks_still,
+  beats.filled_still,
+  beats.ticks_start,
+  beats.filled_start,
+  beats.ready_awake,
+  ready_switch,
+  ready_sound,
+  ticks_split,
+  filled_split,
+  ticks_switch,
+  ticks_sound,
+  beats.ticks_awake,
+)
+
+-- ---- as laws of one buffer and its halfwords
 
 module _ {t : Waits} {rom : List ℕ} where
   -- fewer cycles than the beat in flight has left

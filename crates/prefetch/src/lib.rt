@@ -53,6 +53,7 @@ pub fn drain(buffer: PrefetchBuffer) -> PrefetchBuffer
 }
 
 // WAITCNT bit 14: to switch off drains.
+#[tactic(auto, unfolding(model::specs::Prefetch::set_enabled))]
 pub fn set_enabled(buffer: PrefetchBuffer, enable: bool) -> PrefetchBuffer
     ensures { result ≡ def.set_enabled enable buffer }
 {
@@ -68,6 +69,7 @@ pub fn set_enabled(buffer: PrefetchBuffer, enable: bool) -> PrefetchBuffer
 }
 
 // Start to fill from the halfword at `addr`.
+#[tactic(auto, unfolding(model::specs::Prefetch::restart))]
 pub fn restart(buffer: PrefetchBuffer, addr: u32, waits: [[u8; 2]; 3]) -> PrefetchBuffer
     ensures { result ≡ def.restart waits buffer addr }
 {
@@ -95,6 +97,7 @@ fn rom_byte(rom: &[u8], addr: u32) -> u8
 }
 
 // `read_half`: the halfword load of the bus inside the ROM windows.
+#[tactic(auto, unfolding(model::specs::Load::rom_halfword))]
 fn rom_half(rom: &[u8], addr: u32) -> u16
     ensures { result ≡ load.rom_halfword rom.now addr }
 {
@@ -104,6 +107,7 @@ fn rom_half(rom: &[u8], addr: u32) -> u16
 }
 
 // The next beat; the filling stops where the next address has no window.
+#[tactic(auto, unfolding(model::specs::Prefetch::start_beat))]
 fn start_beat(buffer: PrefetchBuffer, waits: [[u8; 2]; 3]) -> PrefetchBuffer
     ensures { result ≡ def.start_beat waits buffer }
 {
@@ -120,6 +124,7 @@ fn start_beat(buffer: PrefetchBuffer, waits: [[u8; 2]; 3]) -> PrefetchBuffer
 }
 
 // With no beat in flight, room in the buffer and a window to fetch from, a beat starts.
+#[tactic(auto, unfolding(model::specs::Prefetch::ready))]
 fn ready(buffer: PrefetchBuffer, waits: [[u8; 2]; 3]) -> PrefetchBuffer
     ensures { result ≡ def.ready waits buffer }
 {
@@ -130,6 +135,7 @@ fn ready(buffer: PrefetchBuffer, waits: [[u8; 2]; 3]) -> PrefetchBuffer
 }
 
 // The halfword in flight is in the buffer.
+#[tactic(auto, unfolding(model::specs::Prefetch::arrived))]
 fn arrive(buffer: PrefetchBuffer) -> PrefetchBuffer
     requires { buffer.count < 8 }
     ensures { result ≡ def.arrived buffer }
@@ -153,6 +159,7 @@ fn arrive(buffer: PrefetchBuffer) -> PrefetchBuffer
 }
 
 // The beat in flight ends, and the next one starts until the buffer is full.
+#[tactic(auto, unfolding(model::specs::Prefetch::ended, model::specs::Prefetch::arrived))]
 fn end_beat(buffer: PrefetchBuffer, waits: [[u8; 2]; 3]) -> PrefetchBuffer
     requires { buffer.count < 8 }
     ensures { result ≡ def.ended waits buffer }
@@ -191,6 +198,7 @@ fn shorten(buffer: PrefetchBuffer, cycles: u32) -> PrefetchBuffer
 }
 
 // Cycles of the beat in flight, at most as many as it has left. The last one brings the halfword.
+#[tactic(auto, using(crate::proofs::Idle::beat_laws))]
 fn run_beat(
     buffer: PrefetchBuffer,
     halves: &mut [u16; 8],
@@ -211,6 +219,7 @@ fn run_beat(
 
 // Idle cycles of the cartridge bus, whole beats at a time. The Rust's loop also asks whether the buffer is full or a beat has no
 // cycle left: on a sound buffer neither holds while one is in flight, nor is a next address with a window ever 0.
+#[tactic(auto, using(crate::proofs::Idle::idle_laws))]
 pub fn tick_idle(
     buffer: PrefetchBuffer,
     halves: &mut [u16; 8],
@@ -240,6 +249,7 @@ pub fn tick_idle(
 // ---- opcode fetches
 
 // The switch is on and a halfword stands.
+#[tactic(auto, unfolding(model::specs::Prefetch::occupied))]
 fn occupied(buffer: PrefetchBuffer) -> bool
     ensures { result ≡ def.occupied buffer }
 {
@@ -247,6 +257,7 @@ fn occupied(buffer: PrefetchBuffer) -> bool
 }
 
 // Whether a fetch would find the halfword at its address (pricing).
+#[tactic(auto, unfolding(model::specs::Prefetch::hit))]
 pub fn hits(buffer: PrefetchBuffer, addr: u32) -> bool
     ensures { result ≡ def.hit buffer addr }
 {
@@ -254,6 +265,7 @@ pub fn hits(buffer: PrefetchBuffer, addr: u32) -> bool
 }
 
 // The halfword at the head, if it is that of the address.
+#[tactic(auto, unfolding(crate::specs::Found::found))]
 pub fn peek_half(buffer: PrefetchBuffer, halves: &[u16; 8], addr: u32) -> Half
     requires { buffer.head < 8 }
     ensures { result ≡ found halves.now buffer addr }
@@ -266,6 +278,7 @@ pub fn peek_half(buffer: PrefetchBuffer, halves: &[u16; 8], addr: u32) -> Half
 }
 
 // The head's halfword is taken.
+#[tactic(auto, unfolding(model::specs::Prefetch::taken))]
 fn take(buffer: PrefetchBuffer) -> PrefetchBuffer
     requires { (buffer.head < 8) × (1 ≤ buffer.count) }
     ensures { result ≡ def.taken buffer }
@@ -285,6 +298,7 @@ fn take(buffer: PrefetchBuffer) -> PrefetchBuffer
 }
 
 // The buffer after a fetch: its head is taken on a hit. A miss drains it, but not when it is off or empty.
+#[tactic(auto, unfolding(model::specs::Prefetch::fetched, model::specs::Prefetch::hit, model::specs::Prefetch::occupied))]
 pub fn after_fetch(buffer: PrefetchBuffer, addr: u32) -> PrefetchBuffer
     requires { buffer.head < 8 }
     ensures { result ≡ def.fetched buffer addr }
@@ -297,6 +311,7 @@ pub fn after_fetch(buffer: PrefetchBuffer, addr: u32) -> PrefetchBuffer
 }
 
 // An opcode fetch from the buffer.
+#[tactic(auto, unfolding(model::specs::Prefetch::fetched, model::specs::Prefetch::hit, model::specs::Prefetch::occupied, model::specs::Prefetch::taken, crate::specs::Found::found))]
 pub fn try_fetch_half(buffer: PrefetchBuffer, halves: &[u16; 8], addr: u32) -> Fetched
     requires { buffer.head < 8 }
     ensures { result ≡ fetched_half halves.now buffer addr }

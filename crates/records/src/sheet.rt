@@ -29,6 +29,7 @@ pub fn version_of(sheet: &[u8]) -> u16
 }
 
 // The version by whose rules a sheet is read.
+#[tactic(auto, unfolding(model::specs::Sheet::rules_of))]
 pub fn rules_of(sheet: &[u8]) -> Version
     ensures { result ≡ def.rules_of sheet.now }
 {
@@ -57,6 +58,7 @@ pub fn is_shaped(sheet: &[u8]) -> bool
 // ---- a record
 
 // Record number k of a sheet of that version, which its reader reads once.
+#[tactic(auto, unfolding(model::specs::Sheet::record_at, model::specs::Sheet::rules_of))]
 pub fn record_at(sheet: &[u8], version: Version, k: usize) -> SheetRecord
     requires { (def.record_start k + def.record_length ≤ length sheet.now) × (version ≡ def.rules_of sheet.now) }
     ensures { result ≡ def.record_at sheet.now k }
@@ -73,6 +75,7 @@ pub fn record_at(sheet: &[u8], version: Version, k: usize) -> SheetRecord
     }
 }
 
+#[tactic(auto, unfolding(model::specs::Sheet::isa_state))]
 fn isa_state(size: u8) -> IsaState
     ensures { result ≡ def.isa_state size }
 {
@@ -83,6 +86,7 @@ fn isa_state(size: u8) -> IsaState
 }
 
 // The words of a block (W-207): as many as its value says, where that is 1 to 16.
+#[tactic(auto, unfolding(model::specs::Sheet::words_of))]
 pub fn words_of(value: u32) -> u32
     ensures { result ≡ def.words_of value }
 {
@@ -94,6 +98,7 @@ pub fn words_of(value: u32) -> u32
 
 // The step of a record. Few tests stand in a row, so that the compiler makes no table of jumps of them: kinds follow each
 // other in no order, and a jump by the kind would often be guessed wrong.
+#[tactic(auto, unfolding(model::specs::Sheet::step_of))]
 pub fn step_of(r: SheetRecord) -> Step
     ensures { result ≡ def.step_of r }
 {
@@ -174,6 +179,7 @@ fn last_kind(version: Version) -> u8
 // there is none. A record is held against the row of its kind; the flag and the zero byte behind it are one number. The kind is
 // not branched on: kinds follow each other in no order, so that a branch would often be guessed wrong. The table is put in place
 // once, not for each record.
+#[tactic(auto, unfolding(model::specs::Sheet::records_from, model::specs::Sheet::first_of))]
 pub fn least_faulty(sheet: &[u8], n: usize) -> usize
     requires { def.header_length + def.record_length * n ≤ length sheet.now }
     ensures { result ≡ def.least_faulty (def.records_from sheet.now 0 n) }
