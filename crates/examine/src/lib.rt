@@ -20,6 +20,7 @@ use records::sheet;
 
 // No memory is longer than its physical size, and the seven add up to the store. Each is tested before they are added, so
 // that no sum wraps.
+#[tactic(auto, unfolding(model::specs::Outcome::sizes_fit))]
 fn lengths_fit(lengths: Lengths, store: usize, bios: usize, rom: usize) -> bool
     ensures { result ≡ def.sizes_fit lengths store bios rom }
 {
@@ -165,6 +166,7 @@ fn examine_rest(sheet: &[u8], answers: usize) -> Verdict
 }
 
 // The first row of the run's table that holds.
+#[tactic(auto, unfolding(model::specs::Outcome::verdict))]
 pub fn examine(
     sheet: &[u8],
     board: &[u8],
@@ -185,6 +187,7 @@ pub fn examine(
 }
 
 // The first row of a preview's table that holds: the run's without that of the lengths.
+#[tactic(auto, unfolding(model::specs::Preview::preview_verdict))]
 pub fn examine_preview(sheet: &[u8], board: &[u8], answers: &[u8]) -> Verdict
     ensures { result ≡ preview.preview_verdict (asking sheet.now board.now answers.now) }
 {
@@ -239,6 +242,7 @@ fn examine_second(
 }
 
 // The first row of the tariff's table that holds: the run's, with room for the shares, and then the rate.
+#[tactic(auto, unfolding(model::specs::Tariff::tariff_verdict))]
 pub fn examine_tariff(
     sheet: &[u8],
     board: &[u8],
@@ -270,6 +274,7 @@ pub fn examine_tariff(
 }
 
 // The first row of the table of a run with grounds that holds: the run's, with room for the grounds.
+#[tactic(auto, unfolding(model::specs::Grounds::grounds_verdict))]
 pub fn examine_grounds(
     sheet: &[u8],
     board: &[u8],

@@ -20,7 +20,11 @@ use Rattle.model.specs.declared.BeatGround.TheVariants.{By, NoBeat}
 use Rattle.model.specs.declared.AccessSize.{AccessSize}
 use Rattle.model.specs.declared.AccessSize.TheVariants.{Word}
 use Rattle.grounds.specs.declared.Beats.{Beats}
+use Rattle.model.proofs.Laws.Limits.{words_between}
 use Rattle.grounds.specs.Trail.{beats_of, beat_count, ground_at, data_from, data_next, block_from, block_next, TellsBlock}
+
+-- the words of a block are few
+pub ruleset few_words = (words_between)
 
 -- ---- one byte more
 
@@ -67,8 +71,8 @@ word_by P one two first OnSram = one SramBus
 word_by P one two first OnFast = one Fast
 
 -- and the code takes no more
-pub count≤2 : (b : Beats) → beat_count b ≤ 2
-count≤2 b = either (λ (n : ℕ). n ≤ 2) (eqb b.second 0) (omega arith) (omega arith)
+pub count_few : (b : Beats) → beat_count b ≤ 2
+count_few b = either (λ (n : ℕ). n ≤ 2) (eqb b.second 0) (omega arith) (omega arith)
 
 -- both bytes of a word's beats, written behind those of other grounds
 record WordWritten (told : List Ground) (place : ℕ) (b : Beats) (gs : List Ground) : Type 0 where

@@ -43,6 +43,7 @@ fn unless(left_out: bool, byte: u8) -> u8
 }
 
 // A half from ROM, which the buffer has or not.
+#[tactic(auto, unfolding(model::specs::Grounds::half_ground))]
 fn half_ground(hit: bool, forced: bool, addr: u32) -> Ground
     ensures { result ≡ def.half_ground (λ (a : ℕ). hit) forced addr }
 {
@@ -59,6 +60,7 @@ fn half_ground(hit: bool, forced: bool, addr: u32) -> Ground
 }
 
 // A fetch outside ROM.
+#[tactic(auto, unfolding(model::specs::Grounds::plain_ground))]
 fn plain_ground(addr: u32) -> Ground
     ensures { result ≡ def.plain_ground addr }
 {
@@ -69,6 +71,7 @@ fn plain_ground(addr: u32) -> Ground
 }
 
 // The first beat of a data access to ROM at a lowered address, where one would go on at `next`.
+#[tactic(auto, unfolding(crate::specs::Trail::ground_at))]
 fn first_ground(next: u64, low: u32) -> Ground
     ensures { result ≡ trails.ground_at next low }
 {
@@ -95,6 +98,7 @@ struct Trail {
 const NOWHERE: u64 = 0x1_0000_0000;
 
 // The trail that a clock begins.
+#[tactic(auto, unfolding(crate::specs::Trail::begins))]
 fn begun(clock: Clock) -> Trail
     ensures { result ≡ trails.begins clock }
 {
@@ -119,6 +123,7 @@ struct Before {
     forced: bool,
 }
 
+#[tactic(auto, unfolding(crate::specs::Trail::before_step))]
 fn before_step(clock: Clock, answers: &[u8], k: usize) -> Before
     requires { trails.Reaches k answers.now }
     ensures { result ≡ trails.before_step clock answers.now k }
@@ -146,6 +151,7 @@ fn hits(front: u32, count: u8, addr: u32) -> bool
     (count != 0) & (addr / 2 * 2 == front)
 }
 
+#[tactic(auto, using(crate::specs::Pages::code_in, crate::specs::Pages::code_out), unfolding(model::specs::Grounds::half_ground))]
 fn code_beats(front: u32, before: Before, size: u8, addr: u32) -> Beats
     ensures { trails.beats_of result
         ≡ def.beat_bytes (def.fetch_grounds (trails.front_hits front before.count) before.forced (isa_state size) addr) }
@@ -166,6 +172,7 @@ fn code_beats(front: u32, before: Before, size: u8, addr: u32) -> Beats
 }
 
 // Behind an opcode from ROM the buffer goes on, whether it had the opcode or not.
+#[tactic(auto, unfolding(crate::specs::Trail::code_front, model::specs::Sheet::isa_state))]
 fn code_front(front: u32, size: u8, addr: u32) -> u32
     ensures { result ≡ trails.code_front front (isa_state size) addr }
 {
@@ -187,6 +194,7 @@ const FIRST_BEATS: u64 = 0x7700_0000_9889_9699;
 
 const SECOND_BEATS: u64 = 0x0022_2222_0880_0600;
 
+#[tactic(auto, unfolding(crate::specs::Trail::page_digit))]
 fn digit(digits: u64, addr: u32) -> u8
     ensures { result ≡ trails.page_digit digits addr }
 {
@@ -195,6 +203,7 @@ fn digit(digits: u64, addr: u32) -> u8
     ((digits >> (4 * place)) % 16) as u8
 }
 
+#[tactic(auto, using(crate::specs::Pages::data_bytes))]
 fn data_beats(next: u64, size: u8, addr: u32) -> Beats
     ensures { trails.beats_of result ≡ def.beat_bytes (trails.data_from next (access_size_of size) addr) }
 {
@@ -209,6 +218,7 @@ fn data_beats(next: u64, size: u8, addr: u32) -> Beats
 }
 
 // The next access goes on behind it.
+#[tactic(auto, unfolding(model::specs::Wait::access_size_of))]
 fn data_next(size: u8, addr: u32) -> u64
     ensures { result ≡ trails.data_next (access_size_of size) addr }
 {
@@ -236,6 +246,7 @@ fn put(out: &mut [u8], beats: Beats)
 // Tells the grounds of a block's words (W-207), in order, into bytes that are 0, and where an access goes on behind the last. A
 // word has one beat or two, and 16 of them fill the 32 bytes at most. Both bytes are written and the place is moved by as many
 // beats as there are: the 0 for no second beat is written over by the next word, or stays.
+#[tactic(auto, using(crate::proofs::Words::same_room, crate::proofs::Words::count_few))]
 fn put_block(out: &mut [u8], next: u64, addr: u32, words: u32) -> u64
     requires { (out.old ≡ def.beat_bytes []) × (words ≤ max_words) }
     ensures { trails.TellsBlock next addr words out.new result }
@@ -258,6 +269,7 @@ fn put_block(out: &mut [u8], next: u64, addr: u32, words: u32) -> u64
 
 // The trail behind a step that has no grounds. FETCH takes from the buffer what it hits, RESTART has it start anew, and like
 // WAITCNT they clear the previous access.
+#[tactic(auto, unfolding(crate::specs::Trail::passes))]
 fn passed(trail: Trail, r: SheetRecord, taken: u8) -> Trail
     ensures { result ≡ trails.passes r.kind r.address trail taken }
 {
@@ -270,6 +282,7 @@ fn passed(trail: Trail, r: SheetRecord, taken: u8) -> Trail
 }
 
 // Tells the grounds of a record's step, and follows the trail over it. `taken` is its hits byte.
+#[tactic(auto, using(crate::proofs::Words::few_words), unfolding(crate::specs::Trail::beats_by, crate::specs::Trail::trail_after))]
 fn tell(out: &mut [u8], trail: Trail, before: Before, r: SheetRecord, taken: u8) -> Trail
     requires { length out.old ≡ def.grounds_length }
     ensures { trails.Tells trail before r taken out.new result }
@@ -310,6 +323,7 @@ fn tell(out: &mut [u8], trail: Trail, before: Before, r: SheetRecord, taken: u8)
 }
 
 // The grounds of the first n records, behind a run of them that began with this clock and gave these answers.
+#[tactic(auto, using(crate::specs::Turns::same_room))]
 pub fn put_grounds(sheet: &[u8], n: usize, clock: Clock, answers: &[u8], grounds: &mut [u8])
     requires { Explainable clock n sheet.now answers.now grounds.old }
     ensures { grounds.new

@@ -22,6 +22,7 @@ pub fn ground_byte(g: Ground) -> u8
 }
 
 // What a byte says; any but these nine says that there is no beat.
+#[tactic(auto, unfolding(model::specs::Grounds::beat_ground))]
 pub fn beat_ground(byte: u8) -> BeatGround
     ensures { result ≡ def.beat_ground byte }
 {

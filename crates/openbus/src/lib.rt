@@ -49,6 +49,7 @@ pub fn pc_in_bios(pc: u32) -> bool
 }
 
 // What a load from the BIOS gives: outside of it, the last opcode fetched there.
+#[tactic(auto, unfolding(crate::specs::OpenBus::protected_read))]
 pub fn bios_protect_read(pc: u32, state: OpenBusState) -> ProtectedRead
     ensures { result ≡ lines.protected_read pc state }
 {

@@ -19,6 +19,7 @@ fn told_value(kind: u8, value: u32) -> u32
 }
 
 // The value of an answer, by the kind of its record.
+#[tactic(auto, unfolding(crate::specs::Values::value_bytes))]
 fn put_told(out: &mut [u8], kind: u8)
     requires { length out.old ≡ answer_length }
     ensures { out.new ≡ clock_valued kind out.old }
@@ -28,6 +29,7 @@ fn put_told(out: &mut [u8], kind: u8)
 }
 
 // The values of n answers, from the last to the first: the last are the ones at hand.
+#[tactic(auto, using(crate::specs::Values::begin, crate::specs::Values::finish))]
 pub fn put_values(sheet: &[u8], n: usize, answers: &mut [u8])
     requires { Answered n sheet.now answers.old }
     ensures { answers.new

@@ -17,6 +17,7 @@ fn cost_of(cycles: u64, rate: u32) -> u64
 }
 
 // What they cost in cents, rounded up.
+#[tactic(auto, unfolding(model::specs::Tariff::charge))]
 pub fn charge(cycles: u64, rate: u32) -> u64
     requires { Payable rate cycles }
     ensures { result ≡ def.charge rate cycles }
@@ -27,6 +28,7 @@ pub fn charge(cycles: u64, rate: u32) -> u64
 // The shares of n steps, from the cycles that stand in their answers and come to `total`. No step is rounded by itself: what is
 // rounded is the charge up to it. From the last step to the first, since the charge of all is known, and the last answers are the
 // ones at hand.
+#[tactic(auto, using(crate::specs::Shares::begin, crate::specs::Shares::finish))]
 pub fn put_shares(answers: &[u8], n: usize, total: u64, rate: u32, shares: &mut [u8])
     requires { Billable n total rate answers.now shares.old }
     ensures { shares.new ≡ def.shares_in shares.old rate (cycles_from answers.now 0 n) n }

@@ -22,6 +22,7 @@ pub fn force_next_fetch_nonseq(input: DisableBugInput) -> bool
 }
 
 // The kind of the next opcode fetch. Ported for completeness: nothing calls it yet.
+#[tactic(auto, unfolding(model::specs::DisableBug::next_opcode_access_kind))]
 pub fn next_opcode_access_kind(input: DisableBugInput, sequential: bool) -> AccessKind
     ensures { result ≡ def.next_opcode_access_kind
         (def.force_next_fetch_nonseq input.prefetch_enabled input.code_in_rom
@@ -60,6 +61,7 @@ fn pop_byte(version: Version) -> u16
 }
 
 // LDR by immediate, from PC and from SP, LDMIA, and POP.
+#[tactic(auto, unfolding(model::specs::DisableBug::thumb_internal))]
 pub fn thumb_likely_i_cycles_no_pc(version: Version, raw: u16) -> bool
     ensures { result ≡ def.thumb_internal version raw }
 {

@@ -40,6 +40,7 @@ fn had_internal(version: Version, isa: IsaState, raw: u32) -> bool
 }
 
 // One half from ROM: a hit on the buffer's head costs 1; else the address as given decides, with the window it is priced by.
+#[tactic(auto, unfolding(model::specs::Timing::half_beat))]
 fn price_rom_half(
     addr: u32,
     window: RomWindow,
@@ -56,6 +57,7 @@ fn price_rom_half(
 }
 
 // An opcode from ROM: one half, or two of which the second is sequential and priced by the first one's window.
+#[tactic(auto, unfolding(model::specs::Timing::half_beat))]
 fn price_rom(
     addr: u32,
     window: RomWindow,
@@ -78,6 +80,7 @@ fn price_rom(
 }
 
 // An opcode from elsewhere: its beat costs the same under all waits.
+#[tactic(auto, unfolding(model::specs::Timing::plain_beat))]
 fn price_plain(addr: u32, isa: IsaState) -> u32
     ensures { PlainPrice addr isa result }
 {
@@ -115,6 +118,7 @@ fn price_fetch(
 }
 
 // The five results of pricing an instruction.
+#[tactic(auto, using(crate::proofs::Laws::bounds), unfolding(model::specs::Timing::price_insn, model::specs::Timing::fetch_beats, model::specs::Timing::cart_idle_of, model::specs::Timing::disable_bug))]
 pub fn price_insn(input: TimingInput, waits: [[u8; 2]; 3], prefetch: PrefetchBuffer) -> InsnCycles
     requires { SmallWaits waits }
     ensures { result ≡ def.price_insn input waits prefetch }
@@ -143,6 +147,7 @@ pub fn price_insn(input: TimingInput, waits: [[u8; 2]; 3], prefetch: PrefetchBuf
 
 // The kind of a data access to ROM at a lowered address, from the previous one (W-204). What goes on where that ended, and begins
 // no block, lies in one block with it: the regions are the same, and need not be decoded to be compared.
+#[tactic(auto, using(crate::proofs::Laws::rom_kind), unfolding(model::specs::Price::kind_after))]
 fn rom_kind_after(prev_addr: u32, prev_size: u32, addr: u32) -> AccessKind
     requires { SoundPrevious (previously prev_addr prev_size) × InRom addr }
     ensures { result ≡ kind_after (previously prev_addr prev_size) addr }
@@ -176,6 +181,7 @@ fn rom_cost(
 }
 
 // The price of a data access, by its region, its lowered address and the previous access.
+#[tactic(auto, using(crate::proofs::Laws::in_rom))]
 pub fn data_cycles(
     waits: [[u8; 2]; 3],
     sram_waits: u8,

@@ -45,6 +45,7 @@ pub fn expand_strb_byte(data: u8) -> u16
 }
 
 // Where object VRAM starts, by the display mode.
+#[tactic(auto, unfolding(model::specs::Video::obj_vram_base))]
 pub fn obj_vram_base(dispcnt_bg_mode: u8) -> u32
     ensures { result ≡ rules.obj_vram_base dispcnt_bg_mode }
 {
@@ -56,6 +57,7 @@ pub fn obj_vram_base(dispcnt_bg_mode: u8) -> u32
 }
 
 // What stands at a place of VRAM.
+#[tactic(auto, unfolding(model::specs::Video::is_obj_vram, model::specs::Video::obj_vram_base, crate::specs::Actions::vram_class))]
 pub fn classify_vram_offset(offset: u32, dispcnt_bg_mode: u8) -> VramTarget
     ensures { result ≡ actions.vram_class offset dispcnt_bg_mode }
 {
