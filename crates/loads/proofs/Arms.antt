@@ -69,3 +69,7 @@ module _ (l : Lengths) (b : Bus) (a : ℕ) {t : Target} (m : t ≡ target l a) w
       → low + 0x1_0000 * high ≡ load32 l b a
   unfolding load32
   word_pair e f g h = ap₂ (λ (x y : ℕ). x + 0x1_0000 * y) g h ∙ sym (if_false _ _ _ (sram_is e f))
+
+-- ---- as the tactics use them
+
+pub ruleset wide = (meets_lies)

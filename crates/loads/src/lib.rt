@@ -17,6 +17,7 @@ use region::mirror::rom_offset;
 use waits::size_bytes;
 
 // The region has shown that the address is below the BIOS's end.
+#[tactic(auto, unfolding(model::specs::Load::bios_byte, openbus::specs::OpenBus::protected_read))]
 fn read_bios8(addr: u32, pc: u32, latch: u32, bios: &[u8]) -> u8
     ensures { result ≡ def.bios_byte bios.now pc latch addr }
 {
@@ -31,6 +32,7 @@ fn read_bios8(addr: u32, pc: u32, latch: u32, bios: &[u8]) -> u8
 }
 
 // A load repeats at the chip's length; without a chip it gives 0xFF.
+#[tactic(auto, unfolding(model::specs::Load::sram_byte))]
 fn read_sram8(store: &[u8], part: Part, index: usize) -> u8
     requires { part.base + part.size ≤ length store.now }
     ensures { result ≡ def.sram_byte store.now part index }
@@ -66,6 +68,7 @@ fn read8(
 }
 
 // `read16`: two byte loads, each decoded by itself; SRAM repeats its one byte.
+#[tactic(auto, using(crate::proofs::Arms::wide), unfolding(model::specs::Load::load8, model::specs::Load::load16))]
 fn read16(
     target: Target,
     addr: u32,
@@ -90,6 +93,7 @@ fn read16(
 
 // `read32`: two halfword loads, each decoded by itself. A block (W-207) takes its last word by it, so that `read` has one caller,
 // into which the compiler puts it.
+#[tactic(auto, using(crate::proofs::Arms::wide), unfolding(model::specs::Load::load8, model::specs::Load::load32))]
 pub fn read32(
     target: Target,
     addr: u32,
@@ -122,6 +126,7 @@ pub enum Loaded {
     Apart,
 }
 
+#[tactic(auto, unfolding(crate::specs::Words::word_at))]
 fn word_in(store: &[u8], part: Part, index: usize) -> Loaded
     requires { InPart (length store.now) part index }
     ensures { result ≡ words.word_in store.now part index }
@@ -134,6 +139,7 @@ fn word_in(store: &[u8], part: Part, index: usize) -> Loaded
     Loaded::Word(le::read32(&store[base..end], index))
 }
 
+#[tactic(auto, unfolding(crate::specs::Words::word_at))]
 fn word_of_rom(rom: &[u8], index: usize) -> Loaded
     requires { index + 4 < 2 ^ 64 }
     ensures { result ≡ words.word_at rom.now 0 (length rom.now) index }
@@ -144,6 +150,7 @@ fn word_of_rom(rom: &[u8], index: usize) -> Loaded
     Loaded::Word(le::read32(rom, index))
 }
 
+#[tactic(auto, unfolding(crate::specs::Words::word_at))]
 fn word_from(target: Target, addr: u32, rom: &[u8], store: &[u8]) -> Loaded
     requires { Lies (length store.now) target }
     ensures { result ≡ words.word_from rom.now store.now addr target }
@@ -191,6 +198,7 @@ fn reads_zero(target: Target) -> bool
 }
 
 // By bytes, each decoded by itself, as the Rust does it. Over no store and no ROM, as in a preview, an aligned load is 0 at once.
+#[tactic(auto, using(crate::proofs::Arms::wide), unfolding(model::specs::Load::load8))]
 fn read_apart(
     size: AccessSize,
     target: Target,
@@ -216,6 +224,7 @@ fn read_apart(
 }
 
 // A load of any size. An aligned one whose word stands in its memory is part of that word, which saves a decoding for each byte.
+#[tactic(auto, using(crate::proofs::Arms::wide))]
 pub fn read(
     size: AccessSize,
     target: Target,

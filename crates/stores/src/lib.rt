@@ -32,6 +32,7 @@ pub fn saturating_add(a: u64, b: u64) -> u64
 }
 
 // The display mode.
+#[tactic(auto, unfolding(model::specs::Store::mode_of))]
 fn dispcnt_bg_mode(store: &[u8], lengths: Lengths) -> u8
     requires { lengths_sum lengths ≡ length store.now }
     ensures { result ≡ def.mode_of lengths store.now }
@@ -40,6 +41,7 @@ fn dispcnt_bg_mode(store: &[u8], lengths: Lengths) -> u8
 }
 
 // What stands at a place of VRAM, by the display mode of this moment.
+#[tactic(auto, unfolding(model::specs::Video::is_obj_vram, model::specs::Video::obj_vram_base, video::specs::Actions::vram_class))]
 fn vram_target(index: usize, store: &[u8], lengths: Lengths) -> VideoTarget
     requires { (lengths_sum lengths ≡ length store.now) × (index < 2 ^ 32) }
     ensures { fills_halfword result ≡ fills (def.mode_of lengths store.now) VideoRam index }
