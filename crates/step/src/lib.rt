@@ -54,6 +54,7 @@ fn unanswered(clock: Clock, contents: Contents, cycles: u32, idle: u32) -> Begun
 }
 
 // The price of a data access at a lowered address; the waits are those of the register.
+#[tactic(auto, using(crate::proofs::Laws::access_laws))]
 fn data_price(
     waitcnt: u16,
     prev_addr: u32,
@@ -95,6 +96,7 @@ fn accessed(clock: Clock, size: AccessSize, addr: u32) -> Clock
 }
 
 // READ: `read8`, `read16`, `read32`.
+#[tactic(auto, using(crate::proofs::Laws::access_laws), unfolding(model::specs::Memory::target, model::specs::Price::data_beats))]
 fn read_step(
     clock: Clock,
     contents: Contents,
@@ -177,6 +179,7 @@ fn count_store(contents: Contents, target: Target, n: u64) -> Contents
 
 // WRITE: `write8`, `write16`, `write32`. The price comes first, so that the region need not be held through the store: the
 // whole run is quicker by it.
+#[tactic(auto, using(crate::proofs::Laws::access_laws), unfolding(model::specs::Memory::target, model::specs::Price::data_beats, model::specs::Store::puts, model::specs::Step::count_store))]
 fn write_step(
     clock: Clock,
     contents: Contents,
@@ -219,6 +222,7 @@ fn write_step(
 
 // The cycles of a block: each word is priced by itself, after the access before it. The waits are built here: an array that is
 // handed to a function which stays one would stand in memory throughout the run.
+#[tactic(auto, using(crate::proofs::Laws::block_laws), unfolding(model::specs::Price::data_beats))]
 fn block_cycles(waitcnt: u16, prev_addr: u32, prev_size: u32, addr: u32, words: u32) -> u32
     requires { SoundPrevious (previously prev_addr prev_size) × (words ≤ max_words) }
     ensures { result ≡ block_cycles_of waitcnt (previously prev_addr prev_size) addr words }
@@ -258,6 +262,7 @@ fn last_of(addr: u32, words: u32) -> u32
 }
 
 // The clock behind a block: its last word is the previous access.
+#[tactic(auto, using(crate::proofs::Laws::block_laws))]
 fn block_clock(clock: Clock, addr: u32, words: u32) -> Clock
     requires { (1 ≤ words) × (words ≤ max_words) }
     ensures { result ≡ (machine.block_timed clock addr words).clock }
@@ -270,6 +275,7 @@ fn block_clock(clock: Clock, addr: u32, words: u32) -> Clock
 }
 
 // The last word of a block: a load changes nothing, so that the others need not be loaded.
+#[tactic(auto, using(crate::proofs::Laws::block_laws))]
 fn last_word(
     pc: u32,
     latch: u32,
@@ -327,6 +333,7 @@ struct Zeroed {
 }
 
 // Stores 0 in each word.
+#[tactic(auto, using(crate::proofs::Laws::block_laws))]
 fn clear_words(
     contents: Contents,
     addr: u32,
@@ -358,6 +365,7 @@ fn clear_words(
 }
 
 // BLOCK WRITE: `write32` of 0, once a word.
+#[tactic(auto, using(crate::proofs::Laws::block_laws))]
 fn block_write_step(
     clock: Clock,
     contents: Contents,
@@ -385,6 +393,7 @@ fn block_write_step(
 }
 
 // WAITCNT: `write`, then `apply_waitcnt`.
+#[tactic(auto, unfolding(model::specs::Step::set_waitcnt))]
 fn set_waitcnt(clock: Clock, value: u16) -> Clock
     ensures { result ≡ machine.set_waitcnt clock value }
 {
@@ -428,6 +437,7 @@ fn cleared(clock: Clock) -> Clock
 }
 
 // RESTART: `restart`.
+#[tactic(auto, unfolding(model::specs::Waitcnt::rom_waits_of))]
 fn restarted(clock: Clock, waits: [[u8; 2]; 3], addr: u32) -> Clock
     requires { waits ≡ rom_waits_of clock.waitcnt }
     ensures { result ≡ (machine.timed clock (kind.Restart addr)).clock }
@@ -437,6 +447,7 @@ fn restarted(clock: Clock, waits: [[u8; 2]; 3], addr: u32) -> Clock
 }
 
 // FETCH: `try_fetch_half`.
+#[tactic(auto, unfolding(prefetch::specs::Found::found, model::specs::Step::half_at))]
 fn fetch_step(clock: Clock, contents: Contents, halves: &[u16; 8], addr: u32) -> Begun
     requires { clock.prefetch.head < 8 }
     ensures { result ≡ def.bare clock halves.now contents (kind.Fetch addr) }
@@ -467,6 +478,7 @@ struct CodeFetch {
 }
 
 // A restart drains, so that a half that misses need not be fetched first.
+#[tactic(auto, using(crate::proofs::Laws::fetch_laws))]
 fn fetch_thumb(buffer: PrefetchBuffer, addr: u32, waits: [[u8; 2]; 3]) -> CodeFetch
     requires { buffer.head < 8 }
     ensures { result ≡ fetch_of waits buffer addr Thumb }
@@ -480,6 +492,7 @@ fn fetch_thumb(buffer: PrefetchBuffer, addr: u32, waits: [[u8; 2]; 3]) -> CodeFe
 }
 
 // Where the first half misses, so does the second.
+#[tactic(auto, using(crate::proofs::Laws::fetch_laws))]
 fn fetch_arm(buffer: PrefetchBuffer, addr: u32, waits: [[u8; 2]; 3]) -> CodeFetch
     requires { buffer.head < 8 }
     ensures { result ≡ fetch_of waits buffer addr Arm }
@@ -517,6 +530,7 @@ fn fetch_code(buffer: PrefetchBuffer, isa: IsaState, addr: u32, waits: [[u8; 2];
 }
 
 // INSTRUCTION: the price with the board's switch and force flag, then the fetches; the idle cycles are left to the caller.
+#[tactic(auto, using(crate::proofs::Laws::access_laws), unfolding(model::specs::Step::code_clock, model::specs::Step::code_fetched, model::specs::Step::code_hits))]
 fn instruction_step(
     clock: Clock,
     contents: Contents,
