@@ -79,6 +79,7 @@ fn run_accepted(
     }
 }
 
+#[tactic(auto, unfolding(model::specs::Outcome::outcome))]
 pub fn bts_run(
     sheet: &[u8],
     board: &mut [u8],
@@ -148,6 +149,7 @@ fn bill_accepted(
 }
 
 // The same from the examination on: an accepted sheet is run and billed, a refused one is told.
+#[tactic(auto, unfolding(model::specs::Tariff::bill))]
 fn bill_examined(
     sheet: &[u8],
     board: &mut [u8],
@@ -241,6 +243,7 @@ fn explain_accepted(
 }
 
 // The same from the examination on: an accepted sheet is run and its grounds are told, a refused one is told.
+#[tactic(auto, unfolding(model::specs::Grounds::explain))]
 fn explain_examined(
     sheet: &[u8],
     board: &mut [u8],
@@ -326,6 +329,7 @@ fn preview_accepted(sheet: &[u8], board: &[u8], answers: &mut [u8]) -> Report
 }
 
 // The same from the examination on: an accepted sheet is priced, a refused one is told.
+#[tactic(auto, unfolding(model::specs::Preview::preview))]
 fn preview_examined(sheet: &[u8], board: &[u8], answers: &mut [u8]) -> Report
     ensures { reported_preview result sheet.now board.now answers.new
         ≡ preview (asking sheet.now board.now answers.old) }
