@@ -1,6 +1,6 @@
 -- What the run with grounds gives back, as the definitions have it; and that an accepted run's answers tell the pass over them
 -- what it asks.
-use Rattle.std.specs.Prelude.{◌≡◌, refl, ◌≢◌, true, false, ◌&&◌, List, [], ◌++◌, ℕ, ◌+◌, ◌*◌, ◌≤◌, ◌<◌, take, leb}
+use Rattle.std.specs.Prelude.{◌≡◌, refl, ◌≢◌, true, false, ◌&&◌, List, [], ◌++◌, ℕ, ◌*◌, ◌≤◌, ◌<◌, take, leb}
 use Rattle.std.proofs.Common.{sym, ◌∙◌, arith, leb-true}
 use Rattle.std.proofs.Math.Path.{ap, ap₂}
 use Rattle.std.proofs.Math.ListN.{drop}

@@ -1,6 +1,6 @@
 -- The examination in parts, as laws: a part that refuses decides the verdict, one that accepts leaves it to the rest; and
 -- what an accepted sheet's tests say of its numbers.
-use Rattle.std.specs.Prelude.{◌≡◌, refl, Bool, true, false, not, ◌&&◌, List, [], ◌++◌, ℕ, ◌+◌, ◌*◌, ◌≤◌, ◌<◌, length, eqb, ltb, leb}
+use Rattle.std.specs.Prelude.{◌≡◌, refl, Bool, true, false, not, ◌&&◌, List, [], ◌++◌, ℕ, ◌*◌, ◌≤◌, ◌<◌, length, eqb, ltb, leb}
 use Rattle.std.proofs.Common.{sym, ap, ◌∙◌, arith, eqb-true, leb-true, lt-ltb, le-ltb}
 use Rattle.std.proofs.lemmas.Bool.{not-true, not-false}
 use Rattle.model.specs.Base.{AllBytes}

@@ -1,17 +1,14 @@
 -- What the arms and branches of the loads have in common: a callee's answer and the branch taken decide a test of the
 -- definitions. Assumes nothing.
-use Rattle.std.proofs.Common.{◌≡◌, ℕ, ◌+◌, ◌*◌, ◌<◌, Bool, true, false, ltb, List, length, sym, refl, ap, ◌∙◌, ap₂, lit<}
+use Rattle.std.proofs.Common.{◌≡◌, ℕ, ◌+◌, ◌*◌, Bool, true, false, ltb, List, length, sym, refl, ap, ◌∙◌, ap₂}
 use Rattle.std.specs.Prelude.{if◌then◌else◌}
 use Rattle.model.specs.Base.{further}
 use Rattle.model.specs.Region.{bios_size}
-use Rattle.model.specs.Wait.{size_bytes_of}
 use Rattle.model.specs.Memory.{target, is_sram}
 use Rattle.model.specs.Load.{Bus, byte_from, load8, load16, load32}
 use Rattle.model.proofs.Laws.Choice.{if_true, if_false}
 use Rattle.model.specs.Laws.Places.{Lies}
 use Rattle.model.proofs.Laws.Places.{target_lies}
-use Rattle.model.specs.declared.AccessSize.{AccessSize}
-use Rattle.model.specs.declared.AccessSize.TheVariants.{Byte, Half, Word}
 use Rattle.model.specs.declared.Lengths.{Lengths}
 use Rattle.model.specs.declared.Target.{Target}
 use Rattle.openbus.specs.OpenBus.{latching, protected_read}

@@ -6,7 +6,7 @@ use Rattle.model.specs.Waitcnt.{Waits, rom_waits_of}
 use Rattle.model.specs.Wait.{window}
 use Rattle.model.specs.Prefetch.{restart, occupied, hit, taken, fetched}
 use Rattle.model.specs.Timing.{price_insn}
-use Rattle.model.specs.Step.{with_prefetch, cleared, timing_input, priced, rom_fetched, rom_hits, fetched_in}
+use Rattle.model.specs.Step.{with_prefetch, cleared, timing_input, rom_fetched, rom_hits, fetched_in}
 use Rattle.model.specs.Step.{hits_in, code_fetched, code_hits, code_clock, half_at}
 use Rattle.model.proofs.Laws.Choice.{choose, either}
 use Rattle.model.proofs.Laws.Rules.{missed_again}

@@ -5,7 +5,7 @@ use Rattle.model.specs.Waitcnt.{Waits, rom_waits_of}
 use Rattle.model.specs.Prefetch.{ticks, filled}
 use Rattle.model.specs.Load.{rom_halfword}
 use Rattle.model.specs.Step.{Media, State, bus_of, waits_of, with_prefetch, Timed, timed}
-use Rattle.model.specs.Step.{idled, changed, refilled, stepped, answer, clock_after}
+use Rattle.model.specs.Step.{refilled, stepped, answer, clock_after}
 use Rattle.model.specs.Laws.Bounds.{SmallWaits}
 use Rattle.model.proofs.Laws.Bounds.{rom_waits_small}
 use Rattle.model.specs.Laws.Sound.{Sound, SoundClock}
@@ -17,9 +17,8 @@ use Rattle.model.specs.declared.Clock.{Clock}
 use Rattle.model.specs.declared.Answer.{Answer}
 use Rattle.model.specs.declared.Step.{Step}
 use Rattle.prefetch.specs.Ticked.{Ticked}
-use Rattle.step.specs.Begun.{state_from, begun, Begins, Steps}
+use Rattle.step.specs.Begun.{state_from, Begins, Steps}
 use Rattle.step.specs.declared.Begun.{Begun}
-use Rattle.step.specs.declared.Stepped.{Stepped}
 
 module _ (m : Media) (s : State) (x : Step) (t : Waits)
     (sound : SoundClock s.board.clock) (w : t ≡ rom_waits_of s.board.clock.waitcnt)

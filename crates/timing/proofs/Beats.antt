@@ -1,6 +1,6 @@
 -- The price of one beat, of two, and of a word over a bus of 16 bits: the sums that the code makes are those over beats.
 -- Assumes nothing.
-use Rattle.std.proofs.Common.{◌≡◌, ℕ, ◌+◌, ◌≤◌, [], ◌∷◌, sym, refl, ap, ◌∙◌, ap₂, add-zero, arith}
+use Rattle.std.proofs.Common.{◌≡◌, ℕ, ◌+◌, ◌≤◌, [], ◌∷◌, sym, refl, ◌∙◌, ap₂, add-zero}
 use Rattle.model.specs.Waitcnt.{Waits}
 use Rattle.model.specs.Wait.{rom_half_cycles, ewram_cycles, video_ram_cycles}
 use Rattle.model.specs.Price.{Beat, RomBeat, EwramBeat, VideoBeat, beat_cycles, price, wide, rom_access}
