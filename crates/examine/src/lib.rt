@@ -13,8 +13,7 @@ ghost use Rattle.examine.specs.Lent.{lending, tariffing, asking, explaining};
 ghost use Rattle.examine.specs.Verdicts.{Shaped, RoomAsked, Examined, rest_rows};
 
 use model::{
-    ANSWER_LENGTH, FIRST_VERSION, GROUNDS_LENGTH, LATEST_VERSION, Lengths, MAX_RATE, Refusal,
-    SHARE_LENGTH, Verdict,
+    ANSWER_LENGTH, FIRST_VERSION, LATEST_VERSION, Lengths, MAX_RATE, Refusal, SHARE_LENGTH, Verdict,
 };
 use records::sheet;
 
@@ -297,7 +296,7 @@ pub fn examine_grounds(
         rom,
         answers,
         lengths,
-        GROUNDS_LENGTH,
+        model::GROUNDS_LENGTH,
         room,
     )
 }
