@@ -71,8 +71,10 @@ word_by P one two first OnSram = one SramBus
 word_by P one two first OnFast = one Fast
 
 -- and the code takes no more
-pub count_few : (b : Beats) → beat_count b ≤ 2
-count_few b = either (λ (n : ℕ). n ≤ 2) (eqb b.second 0) (omega arith) (omega arith)
+pub count≤2 : (b : Beats) → beat_count b ≤ 2
+count≤2 b = either (λ (n : ℕ). n ≤ 2) (eqb b.second 0) (omega arith) (omega arith)
+
+pub ruleset few_beats = (count≤2)
 
 -- both bytes of a word's beats, written behind those of other grounds
 record WordWritten (told : List Ground) (place : ℕ) (b : Beats) (gs : List Ground) : Type 0 where

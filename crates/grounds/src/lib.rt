@@ -246,7 +246,7 @@ fn put(out: &mut [u8], beats: Beats)
 // Tells the grounds of a block's words (W-207), in order, into bytes that are 0, and where an access goes on behind the last. A
 // word has one beat or two, and 16 of them fill the 32 bytes at most. Both bytes are written and the place is moved by as many
 // beats as there are: the 0 for no second beat is written over by the next word, or stays.
-#[tactic(auto, using(crate::proofs::Words::same_room, crate::proofs::Words::count_few))]
+#[tactic(auto, using(crate::proofs::Words::same_room, crate::proofs::Words::few_beats))]
 fn put_block(out: &mut [u8], next: u64, addr: u32, words: u32) -> u64
     requires { (out.old ≡ def.beat_bytes []) × (words ≤ max_words) }
     ensures { trails.TellsBlock next addr words out.new result }
