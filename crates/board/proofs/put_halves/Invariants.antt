@@ -1,3 +1,4 @@
+-- The halfwords are written one behind the other.
 use Rattle.std.proofs.Common.{◌-◌, ◌*◌, take}
 use Rattle.model.specs.Base.{numbers_bytes}
 use Rattle.le.proofs.Written.{Begun}
