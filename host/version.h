@@ -3,7 +3,7 @@
 #define HOST_VERSION_H
 
 /* The toolchain by which the library is proved and built, as it names itself. */
-#define HOST_TOOLCHAIN "rattle-kit-5b-plain logic 097e4c862dff5811"
+#define HOST_TOOLCHAIN "rattle-kit-13f logic dac8208d650f15bf"
 
 /* The Rust that the library ports. */
 #define HOST_RUST "graycart/graycart-gba, commit 46607fe0ef"

@@ -4,7 +4,6 @@
 gate_tree() {
     scratch_tree
     fake_rust
-    fake rt '[ "$1" != ci ] || echo "7 passed, 0 failed"'
     gate_part host/test 'echo "library: ${BTS_LIB:-made here}"
         printf "%s\n" "left out: a folder, 5 checks (plain): why" "left out in all: 5" "9 checks, 0 failed"'
     gate_part tests/against-rust/run 'echo "cases 9: 0 differences"'
@@ -32,32 +31,60 @@ gate_checks() {
     gate_tree
     inside env GRAYCART_SRC=rust tests/all
     check "all pass: status" is "$status" 0
-    for name in tools format library bench host against-rust; do check "$name is told" prints "==== $name: passed"; done
-    check "the calls" is "$(cat "$scratch/calls")" "$(printf '%s\n' 'rt fmt --check' 'rt staticlib bts' 'rt check bench' \
-        'host/test ' 'tests/against-rust/run 50')"
+    for name in tools library bench host against-rust; do check "$name is told" prints "==== $name: passed"; done
+    check "the calls" is "$(cat "$scratch/calls")" "$(printf '%s\n' 'rt lib' 'rt run' 'host/test ' 'tests/against-rust/run 50')"
     check "what is left out is listed at the end" is "$(tail -n 3 "$work/out")" "$(printf '%s\n' \
-        'left out: a folder, 5 checks (plain): why' 'left out in all: 5' 'tests/all: all 6 parts passed')"
+        'left out: a folder, 5 checks (plain): why' 'left out in all: 5' 'tests/all: all 5 parts passed')"
     inside env GRAYCART_SRC=rust BTS_LIB=other.a .ci/run
     check "the gate: the library of these sources" prints "library: made here"
     check "the gate: status" is "$status" 0
     check "the gate: last line" is "$(last_line)" "7 passed, 0 failed"
-    fake rt '[ "$1" != ci ] || { echo "6 passed, 1 failed"; exit 1; }'
-    inside env GRAYCART_SRC=rust .ci/run
-    check "rt ci fails: status" is "$status" 1
-    check "rt ci fails: last line" is "$(last_line)" "6 passed, 1 failed"
+    check "the gate: a plain rt ci, last" is "$(tail -n 1 "$scratch/calls")" "rt ci"
+    ci_checks
     failing_part_checks
     missing_tool_checks
 }
 
+# NAME LINE STATUS LAST: where `rt ci` does the line, the gate must end with the status and this last line
+ci_ends() {
+    fake rt "[ \"\$1\" != ci ] || { $2; exit; }
+$rt_passes"
+    inside env GRAYCART_SRC=rust .ci/run
+    check "$1: status $status" is "$status" "$3"
+    check "$1: last line" is "$(last_line)" "$4"
+}
+
+# How rt ci can end. It passes over must-fail edits that could not be tried, and the gate doesn't.
+ci_checks() {
+    ci_ends "rt ci fails" 'echo "6 passed, 1 failed"; exit 1' 1 "6 passed, 1 failed"
+    ci_ends "rt ci stops" 'echo "0 passed, 1 failed"; exit 2' 2 "0 passed, 1 failed"
+    ci_ends "rt ci is cut off" 'echo begun; exit 137' 137 begun
+    ci_ends "rt ci without its line" 'echo "7 passed, 0 failed"' 1 "the gate failed: rt ci has no line 'rt: ok'"
+    edits='rt: ok; handles allowed: none; must-fail edits: 20 refused'
+    bad="the gate failed: must-fail edits that could not be tried, by rt ci's line 'rt: ok':"
+    passes='echo "7 passed, 0 failed"'
+    ci_ends "a bad edit" "echo '$edits, 1 bad; every proof was done'; $passes" 1 "$bad 1 bad"
+    ci_ends "bad edits" "echo '$edits, 2 of them only by a limit, 10 bad; every proof was done'; $passes" 1 "$bad 10 bad"
+    ci_ends "a limit" "echo '$edits, 2 of them only by a limit; every proof was done'; $passes" 0 "7 passed, 0 failed"
+    ci_ends "another line" "echo 'crate: nothing, 3 bad'; echo '$edits; every proof was done'; $passes" 0 "7 passed, 0 failed"
+    ci_ends "its lines come at once" "echo first; sleep 1; grep -qx first '$work/out' || exit 9; echo '$edits'; $passes" 0 \
+        "7 passed, 0 failed"
+}
+
 failing_part_checks() {
     gate_tree
-    fake rt '[ "$1" != fmt ]'
-    fails_in "the layout" format
-    check "the layout: the others are done" called "tests/against-rust/run 50"
-    fake rt '[ "$1" != staticlib ]'
+    fake rt "[ \$1 != lib ] || exit 1
+$rt_passes"
     fails_in "the library" library
-    fake rt '[ "$1" != check ]'
+    check "the library: the others are done" called "tests/against-rust/run 50"
+    fake rt "[ \$1 != run ] || exit 1
+$rt_passes"
     fails_in "bench" bench
+    gate_tree
+    echo other >"$scratch/crates/bench/stdout"
+    fake rt "[ \$1 != run ] || { echo lines; exit; }
+$rt_passes"
+    fails_in "bench writes something else" bench
     gate_tree
     gate_part host/test 'echo "9 checks, 1 failed"; exit 1'
     fails_in "host/test" host
@@ -76,7 +103,7 @@ missing_tool_checks() {
     done
     gate_tree
     rm "$scratch/bin/rt"
-    fails_in "no rt" "tools format library bench"
+    fails_in "no rt" "tools library bench"
     check "no rt: it is named" prints "missing: rt"
     gate_tree
     fails_in "no Rust" tools elsewhere

@@ -4,7 +4,7 @@
 installed() { [ -f "$root$1" ] && is "$(stat -c %a "$root$1")" "$2"; }
 
 install_checks() {
-    root=$PWD/$work/root
+    root=$work/root
     rm -rf "$root"
     DESTDIR=$root PREFIX=/prefix BTS_LIB=$lib host/install 2>"$work/err"
     check "host/install" is $? 0

@@ -6,9 +6,9 @@ makes_anew() {
     shift
     : >"$scratch/calls"
     inside "$@"
-    check "$case_name: rt is called" called "rt staticlib bts"
-    check "$case_name: and first" is "$(head -n 1 "$scratch/calls")" "rt staticlib bts"
-    check "$case_name: it is said" says "rt staticlib bts"
+    check "$case_name: rt is called" called "rt lib"
+    check "$case_name: and first" is "$(head -n 1 "$scratch/calls")" "rt lib"
+    check "$case_name: it is said" says "rt lib in crates/bts_c"
 }
 
 # NAME SCRIPT..: a script that must take the library as it is
@@ -47,6 +47,7 @@ stale_checks() {
     makes_anew "$*, a source is gone" "$@"
     rm "$scratch/target/staticlib/libbts.a"
     makes_anew "$*, no library" "$@"
+    check "$*, no library: what rt made is in its place" [ -f "$scratch/target/staticlib/libbts.a" ]
     refused_stale_checks "$@"
 }
 
@@ -58,11 +59,15 @@ refused_stale_checks() {
     fake rt 'exit 1'
     inside "$@"
     check "$*, it isn't proved: status $status" is "$status" 2
+    fake rt
+    inside "$@"
+    check "$*, rt makes no archive: status $status" is "$status" 2
+    check "$*, rt makes no archive: it is said" says "rt lib in crates/bts_c left no out/libbts_c.a"
     rm "$scratch/bin/rt"
     inside "$@"
     check "$*, no rt: status $status" is "$status" 2
     check "$*, no rt: it is said" says "libbts.a is older than crates.txt, and rt is not installed to make it"
-    check "$*: nothing is compiled" is "$(cat "$scratch/calls")" "rt staticlib bts"
+    check "$*: nothing is compiled" is "$(cat "$scratch/calls")" "$(printf '%s\n' 'rt lib' 'rt lib')"
     inside env BTS_LIB=target/staticlib/libbts.a "$@"
     check "$*, BTS_LIB: it is compiled" grep -q '^[rc][u+c]' "$scratch/calls"
     check "$*, BTS_LIB: it is said" says "BTS_LIB: target/staticlib/libbts.a is older than crates.txt"

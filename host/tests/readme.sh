@@ -5,7 +5,7 @@ readme=$work/readme
 # The commands of the README that are not run here, each with the reason. All others are.
 not_run() {
     cat <<'ROWS'
-rt check bench|it proves the program, which takes minutes
+(cd crates/bench && rt run < stdin)|it proves the program, which takes minutes
 rt ci|it proves everything, which takes longer
 tests/all|it runs these tests
 host/test|it is these tests
@@ -36,7 +36,6 @@ readme_tree() {
     /*) ln -s "$lib" "$readme/tree/target/staticlib/libbts.a" ;;
     *) ln -s "$PWD/$lib" "$readme/tree/target/staticlib/libbts.a" ;;
     esac
-    [ ! -d target/bin ] || ln -s "$PWD/target/bin" "$readme/tree/target/bin"
     readme_blocks c >"$readme/tree/price.c"
 }
 
@@ -53,8 +52,8 @@ commands_of() {
 block_checks() {
     commands_of "$1" >"$readme/commands"
     [ -s "$readme/commands" ] || return 0
-    if grep -q '^target/bin/bench' "$readme/commands" && [ ! -x target/bin/bench ]; then
-        leave_out 2 "README's block ${1##*/}" "there is no target/bin/bench: rt check bench"
+    if grep -q "^$bench" "$readme/commands" && [ ! -x $bench ]; then
+        leave_out 2 "README's block ${1##*/}" "there is no $bench: $bench_made_by"
         return 0
     fi
     (cd "$readme/tree" && unset BTS_LIB && sh -e ../commands) >"$work/out" 2>"$work/err"
@@ -76,7 +75,7 @@ readme_checks() {
     check "what is not run is what it names" is "$(sort -u "$readme/passed-over")" "$(sort "$readme/not-run")"
     while read -r command arguments; do
         case $command in
-        rt) ;;
+        rt | '(cd') ;;
         *) check "$command is there" [ -x "$command" ] ;;
         esac
     done <"$readme/not-run"
