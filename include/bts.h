@@ -1,4 +1,4 @@
-/* The Game Boy Advance bus-and-timing model for C: the run of a sheet, from libbts.a (make it with `rt staticlib bts`).
+/* The Game Boy Advance bus-and-timing model for C: the run of a sheet, from libbts.a (host/build makes it).
  *
  * A sheet is a list of steps as bytes. bts_run examines it, does its steps in order on a board (the machine's state outside its
  * memories) and over memories that the caller lends, and writes an answer for each step. bts_run_tariff does the same and bills

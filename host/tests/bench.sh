@@ -1,5 +1,5 @@
-# The program bench, where it has been built: a word on standard error for what goes wrong. A program of Rattle has no exit
-# status, so the word is what its caller has; standard output has document 01's lines alone.
+# The program bench, where it has been built: a word on standard error for what goes wrong. Its exit status is 0 in each case, so
+# the word is what its caller has; standard output has document 01's lines alone.
 
 # WHAT WORD LINES: what bench has just said, to $work/err, and written, to $work/out. No word: nothing is said.
 bench_said() {
