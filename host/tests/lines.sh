@@ -51,15 +51,15 @@ total 27"
 
 # The same sheets through the program bench, where it has been built.
 against_bench() {
-    [ -x $bench ] || { leave_out 18 "against bench" "$bench_made_by builds it"; return; }
+    [ -x $bench_program ] || { leave_out 18 "against bench" "$bench_made_by builds it"; return; }
     for name in bench loop steps rows grounds; do
         lands $(shorts_in $here/$name.lst) "$name" --bench -o "$files/$name" $here/$name.lst
-        $bench <"$files/$name" >"$work/bench"
+        $bench_program <"$files/$name" >"$work/bench"
         check "$name as bench has it" cmp -s "$work/out" "$work/bench"
     done
     run --bench -o "$files/blocks" $here/blocks.lst
     check "blocks: status" is "$status" 0
-    $bench <"$files/blocks" >"$work/bench" 2>"$work/err"
+    $bench_program <"$files/blocks" >"$work/bench" 2>"$work/err"
     check "blocks: no word" empty "$work/err"
     check "blocks as bench has it" cmp -s "$work/out" "$work/bench"
 }

@@ -52,8 +52,8 @@ commands_of() {
 block_checks() {
     commands_of "$1" >"$readme/commands"
     [ -s "$readme/commands" ] || return 0
-    if grep -q "^$bench" "$readme/commands" && [ ! -x $bench ]; then
-        leave_out 2 "README's block ${1##*/}" "there is no $bench: $bench_made_by"
+    if grep -q "^$bench_program" "$readme/commands" && [ ! -x $bench_program ]; then
+        leave_out 2 "README's block ${1##*/}" "there is no $bench_program: $bench_made_by"
         return 0
     fi
     (cd "$readme/tree" && unset BTS_LIB && sh -e ../commands) >"$work/out" 2>"$work/err"
