@@ -4,8 +4,8 @@
 
 ghost use Rattle.std.specs.Prelude.{◌+◌, ◌≤◌, ◌<◌};
 
-use libc::STDOUT_FILENO;
 use model::{ANSWER_LENGTH, BOARD_LENGTH, HEADER_LENGTH, RECORD_LENGTH};
+use std::io;
 
 // A figure has four records, each of kind, size, address and value.
 #[derive(Clone, Copy)]
@@ -150,27 +150,26 @@ fn cartridge() -> [u8; 512] {
     rom
 }
 
-fn column(n: u32) {
-    io::write_all(STDOUT_FILENO, b" ");
-    io::print_decimal(STDOUT_FILENO, n as u64);
+fn column<P: Print>(rt: &P, n: u32) -> io::Result<()> {
+    print!(rt; " {n}")
 }
 
 // Cycles and value of answer k.
-fn print_answer(answers: &[u8; ANSWERS_LENGTH], k: usize)
+fn print_answer<P: Print>(rt: &P, answers: &[u8; ANSWERS_LENGTH], k: usize) -> io::Result<()>
     requires { k < 4 }
 {
     let at = ANSWER_LENGTH * k;
-    column(le::word_at(answers, at + 4));
-    column(le::word_at(answers, at));
+    column(rt, le::word_at(answers, at + 4))?;
+    column(rt, le::word_at(answers, at))
 }
 
 // Its hits and the prefetch count.
-fn print_buffer(answers: &[u8; ANSWERS_LENGTH], k: usize)
+fn print_buffer<P: Print>(rt: &P, answers: &[u8; ANSWERS_LENGTH], k: usize) -> io::Result<()>
     requires { k < 4 }
 {
     let at = ANSWER_LENGTH * k;
-    column(le::byte_at(answers, at + 8) as u32);
-    column(le::byte_at(answers, at + 9) as u32);
+    column(rt, le::byte_at(answers, at + 8) as u32)?;
+    column(rt, le::byte_at(answers, at + 9) as u32)
 }
 
 // What a run of a figure gives.
@@ -207,340 +206,398 @@ fn run(sheet: &[u8]) -> Given {
     }
 }
 
-fn print_title(title: &[u8]) {
-    io::write_all(STDOUT_FILENO, title);
-    io::write_all(STDOUT_FILENO, b":");
+fn print_title<P: Print>(rt: &P, title: &str) -> io::Result<()> {
+    print!(rt; "{title}:")
 }
 
 // Cycles and value of three records, and the run's number. The fourth record is an IDLE 0.
-fn show(title: &[u8], a: Row, b: Row, c: Row) {
+fn show<P: Print>(rt: &P, title: &str, a: Row, b: Row, c: Row) -> io::Result<()> {
     let sheet = sheet_of(a, b, c, idle(0));
     let given = run(&sheet);
     let answers = given.answers;
-    print_title(title);
-    print_answer(&answers, 0);
-    print_answer(&answers, 1);
-    print_answer(&answers, 2);
-    column(given.number);
-    io::write_all(STDOUT_FILENO, b"\n");
+    print_title(rt, title)?;
+    print_answer(rt, &answers, 0)?;
+    print_answer(rt, &answers, 1)?;
+    print_answer(rt, &answers, 2)?;
+    column(rt, given.number)?;
+    println!(rt)
 }
 
 // Two records behind WAITCNT 0x4000 and RESTART 0x08000100: cycles, value, hits and prefetch count of each, and the run's number.
-fn show_buffer(title: &[u8], c: Row, d: Row) {
+fn show_buffer<P: Print>(rt: &P, title: &str, c: Row, d: Row) -> io::Result<()> {
     let sheet = sheet_of(waitcnt(0x4000), restart(0x0800_0100), c, d);
     let given = run(&sheet);
     let answers = given.answers;
-    print_title(title);
-    print_answer(&answers, 2);
-    print_buffer(&answers, 2);
-    print_answer(&answers, 3);
-    print_buffer(&answers, 3);
-    column(given.number);
-    io::write_all(STDOUT_FILENO, b"\n");
+    print_title(rt, title)?;
+    print_answer(rt, &answers, 2)?;
+    print_buffer(rt, &answers, 2)?;
+    print_answer(rt, &answers, 3)?;
+    print_buffer(rt, &answers, 3)?;
+    column(rt, given.number)?;
+    println!(rt)
 }
 
 // What a data access costs by region, at power on.
-fn data_prices() {
+fn data_prices<P: Print>(rt: &P) -> io::Result<()> {
     show(
-        b"EWRAM 3, 3, 6",
+        rt,
+        "EWRAM 3, 3, 6",
         read(1, 0x0200_0000),
         read(2, 0x0200_0000),
         read(4, 0x0200_0000),
-    );
+    )?;
     show(
-        b"Video memory 1, 1, 2",
+        rt,
+        "Video memory 1, 1, 2",
         read(1, 0x0600_0000),
         read(2, 0x0500_0000),
         read(4, 0x0600_0000),
-    );
+    )?;
     show(
-        b"OAM, IWRAM, I/O 1",
+        rt,
+        "OAM, IWRAM, I/O 1",
         read(4, 0x0700_0000),
         read(4, 0x0300_0000),
         read(4, 0x0400_0000),
-    );
+    )?;
     show(
-        b"ROM at power on 5, 5, 8",
+        rt,
+        "ROM at power on 5, 5, 8",
         read(1, 0x0800_0001),
         read(2, 0x0800_0001),
         read(4, 0x0800_0001),
-    );
+    )?;
     show(
-        b"SRAM at power on 5",
+        rt,
+        "SRAM at power on 5",
         read(1, 0x0E00_0000),
         read(2, 0x0E00_0000),
         read(4, 0x0E00_0000),
-    );
+    )
 }
 
 // WAITCNT 0x4317, which most commercial cartridges set.
-fn common_setting() {
+fn common_setting<P: Print>(rt: &P) -> io::Result<()> {
     show(
-        b"The common setting: WS0 4, 6",
+        rt,
+        "The common setting: WS0 4, 6",
         waitcnt(0x4317),
         read(2, 0x0800_0000),
         read(4, 0x0800_0000),
-    );
+    )?;
     show(
-        b"The common setting: WS2 9, 18",
+        rt,
+        "The common setting: WS2 9, 18",
         waitcnt(0x4317),
         read(2, 0x0C00_0000),
         read(4, 0x0C00_0000),
-    );
+    )?;
     show(
-        b"The common setting: SRAM 9",
+        rt,
+        "The common setting: SRAM 9",
         waitcnt(0x4317),
         read(1, 0x0E00_0000),
         read(4, 0x0E00_0000),
-    );
+    )
 }
 
-// Each field of WAITCNT.
-fn wait_fields() {
+// The fields of WAITCNT for a first access.
+fn first_fields<P: Print>(rt: &P) -> io::Result<()> {
     show(
-        b"First access, field 1: 4",
+        rt,
+        "First access, field 1: 4",
         waitcnt(0x0125),
         read(1, 0x0E00_0000),
         read(2, 0x0A00_0000),
-    );
+    )?;
     show(
-        b"First access, field 2: 3",
+        rt,
+        "First access, field 2: 3",
         waitcnt(0x024A),
         read(1, 0x0E00_0000),
         read(2, 0x0A00_0000),
-    );
+    )?;
     show(
-        b"First access, field 3: 9",
+        rt,
+        "First access, field 3: 9",
         waitcnt(0x036F),
         read(1, 0x0E00_0000),
         read(2, 0x0A00_0000),
-    );
+    )
+}
+
+// And those for a second one, in each window.
+fn second_fields<P: Print>(rt: &P) -> io::Result<()> {
     show(
-        b"Second access in WS0: 3 or 2",
+        rt,
+        "Second access in WS0: 3 or 2",
         read(4, 0x0800_0000),
         waitcnt(0x0010),
         read(4, 0x0800_0000),
-    );
+    )?;
     show(
-        b"Second access in WS1: 5 or 2",
+        rt,
+        "Second access in WS1: 5 or 2",
         read(4, 0x0A00_0000),
         waitcnt(0x0080),
         read(4, 0x0A00_0000),
-    );
+    )?;
     show(
-        b"Second access in WS2: 9 or 2",
+        rt,
+        "Second access in WS2: 9 or 2",
         read(4, 0x0C00_0000),
         waitcnt(0x0400),
         read(4, 0x0C00_0000),
-    );
+    )
 }
 
 // Which addresses are one place.
-fn mirrors() {
+fn mirrors<P: Print>(rt: &P) -> io::Result<()> {
     show(
-        b"EWRAM repeats every 0x40000",
+        rt,
+        "EWRAM repeats every 0x40000",
         write(4, 0x0200_0000, 0x1234_5678),
         read(4, 0x0204_0000),
         read(4, 0x02FC_0000),
-    );
+    )?;
     show(
-        b"IWRAM repeats every 0x8000",
+        rt,
+        "IWRAM repeats every 0x8000",
         write(4, 0x0300_0000, 0x1234_5678),
         read(4, 0x0300_8000),
         read(4, 0x03FF_8000),
-    );
+    )?;
     show(
-        b"Palette repeats every 0x400",
+        rt,
+        "Palette repeats every 0x400",
         write(2, 0x0500_0000, 0x1234),
         read(2, 0x0500_0400),
         read(2, 0x05FF_FC00),
-    );
+    )?;
     show(
-        b"OAM repeats every 0x400",
+        rt,
+        "OAM repeats every 0x400",
         write(2, 0x0700_0000, 0x1234),
         read(2, 0x0700_0400),
         read(2, 0x07FF_FC00),
-    );
+    )?;
     show(
-        b"I/O does not repeat",
+        rt,
+        "I/O does not repeat",
         write(2, 0x0400_0000, 3),
         read(2, 0x0400_0000),
         read(2, 0x0401_0000),
-    );
+    )
 }
 
 // What a closed BIOS gives, and what becomes of a byte store to video memory.
-fn latch_and_video() {
+fn latch_and_video<P: Print>(rt: &P) -> io::Result<()> {
     show(
-        b"BIOS 1; closed, it gives the latch",
+        rt,
+        "BIOS 1; closed, it gives the latch",
         pc(0x0800_0000),
         latch(0x4433_2211),
         read(4, 0x0000_0000),
-    );
+    )?;
     show(
-        b"The latch's bytes by address bits 0 and 1",
+        rt,
+        "The latch's bytes by address bits 0 and 1",
         pc(0x0800_0000),
         latch(0x4433_2211),
         read(2, 0x0000_0001),
-    );
+    )?;
     show(
-        b"A byte store fills its halfword",
+        rt,
+        "A byte store fills its halfword",
         write(1, 0x0500_0001, 0x5A),
         read(2, 0x0500_0000),
         read(1, 0x0500_0000),
-    );
+    )?;
     show(
-        b"A byte store to OAM is dropped",
+        rt,
+        "A byte store to OAM is dropped",
         write(1, 0x0700_0000, 0x5A),
         read(2, 0x0700_0000),
         read(1, 0x0700_0000),
-    );
+    )
 }
 
 // Which byte stores to VRAM fill their halfword, by the display mode.
-fn video_modes() {
+fn video_modes<P: Print>(rt: &P) -> io::Result<()> {
     show(
-        b"VRAM in mode 0: objects from 0x10000",
+        rt,
+        "VRAM in mode 0: objects from 0x10000",
         write(1, 0x0600_FFFF, 0x5A),
         write(1, 0x0601_0000, 0x5A),
         read(4, 0x0600_FFFE),
-    );
+    )?;
     show(
-        b"VRAM in mode 3: background up to 0x13FFF",
+        rt,
+        "VRAM in mode 3: background up to 0x13FFF",
         write(1, 0x0400_0000, 3),
         write(1, 0x0601_3FFF, 0x5A),
         read(2, 0x0601_3FFE),
-    );
+    )?;
     show(
-        b"VRAM in mode 3: objects from 0x14000",
+        rt,
+        "VRAM in mode 3: objects from 0x14000",
         write(1, 0x0400_0000, 3),
         write(1, 0x0601_4000, 0x5A),
         read(2, 0x0601_4000),
-    );
+    )
 }
 
 // What FETCH, RESTART and IDLE do to the prefetch buffer.
-fn buffer() {
+fn buffer<P: Print>(rt: &P) -> io::Result<()> {
     show_buffer(
-        b"Seven halfwords in 27 cycles; a hit takes the head",
+        rt,
+        "Seven halfwords in 27 cycles; a hit takes the head",
         idle(27),
         fetch(0x0800_0100),
-    );
+    )?;
     show_buffer(
-        b"Eight in 28; a fetch elsewhere drains",
+        rt,
+        "Eight in 28; a fetch elsewhere drains",
         idle(28),
         fetch(0x0800_0200),
-    );
+    )?;
     show_buffer(
-        b"A fetch while none stands drains nothing",
+        rt,
+        "A fetch while none stands drains nothing",
         fetch(0x0800_0200),
         idle(27),
-    );
+    )?;
     show_buffer(
-        b"Two nonsequential beats after a restart: 5 and 10",
+        rt,
+        "Two nonsequential beats after a restart: 5 and 10",
         idle(9),
         idle(1),
-    );
+    )?;
     show_buffer(
-        b"A restart outside ROM leaves it drained",
+        rt,
+        "A restart outside ROM leaves it drained",
         restart(0x0300_0000),
         idle(100),
-    );
+    )?;
     show_buffer(
-        b"Thumb from the buffer: 1",
+        rt,
+        "Thumb from the buffer: 1",
         idle(10),
         instruction(2, 0x0800_0100, 0x1C00),
-    );
+    )
 }
 
 // Where a load and a store go.
-fn places() {
+fn places<P: Print>(rt: &P) -> io::Result<()> {
     show(
-        b"SRAM loads wrap, stores do not",
+        rt,
+        "SRAM loads wrap, stores do not",
         write(1, 0x0E00_0000, 0x11),
         write(1, 0x0E00_8000, 0x5A),
         read(1, 0x0E00_8000),
-    );
+    )?;
     show(
-        b"VRAM: both halves from 0x10000 are one",
+        rt,
+        "VRAM: both halves from 0x10000 are one",
         write(2, 0x0601_0000, 0x1234),
         read(2, 0x0601_8000),
         read(2, 0x0600_8000),
-    );
+    )?;
     show(
-        b"I/O: the word at 0x800 in every 64 KiB",
+        rt,
+        "I/O: the word at 0x800 in every 64 KiB",
         write(4, 0x04FF_0800, 0x1234_5678),
         read(4, 0x0400_0800),
         read(4, 0x0401_0800),
-    );
+    )
+}
+
+// The cartridge by each of its windows, and SRAM by both of its pages.
+fn cartridge_places<P: Print>(rt: &P) -> io::Result<()> {
     show(
-        b"A word across ROM and SRAM",
+        rt,
+        "A word across ROM and SRAM",
         write(1, 0x0E00_0000, 0xA0),
         read(4, 0x0DFF_FFFE),
         read(2, 0x0DFF_FFFF),
-    );
+    )?;
     show(
-        b"The ROM in three windows",
+        rt,
+        "The ROM in three windows",
         read(2, 0x0800_0100),
         read(2, 0x0A00_0100),
         read(2, 0x0C00_0100),
-    );
+    )?;
     show(
-        b"Page 0x0F is SRAM too",
+        rt,
+        "Page 0x0F is SRAM too",
         write(1, 0x0E00_0003, 0x5A),
         read(1, 0x0F00_0003),
         read(4, 0x0F00_0003),
-    );
+    )
 }
 
-// Prices of opcodes, and their idle cycles.
-fn instructions() {
+// Which opcodes have an idle cycle.
+fn internal_cycles<P: Print>(rt: &P) -> io::Result<()> {
     show(
-        b"Internal cycle: SWP, MUL, LDM",
+        rt,
+        "Internal cycle: SWP, MUL, LDM",
         instruction(4, 0x0300_0000, 0xE101_0092),
         instruction(4, 0x0300_0000, 0xE001_0392),
         instruction(4, 0x0300_0000, 0xE8B1_0001),
-    );
+    )?;
     show(
-        b"Internal cycle: LDR, shift by register; none: MOV",
+        rt,
+        "Internal cycle: LDR, shift by register; none: MOV",
         instruction(4, 0x0300_0000, 0xE591_0000),
         instruction(4, 0x0300_0000, 0xE1A0_0211),
         instruction(4, 0x0300_0000, 0xE1A0_0000),
-    );
+    )?;
     show(
-        b"Thumb internal cycle: LDR by register, pc and sp",
+        rt,
+        "Thumb internal cycle: LDR by register, pc and sp",
         instruction(2, 0x0300_0000, 0x6800),
         instruction(2, 0x0300_0000, 0x4800),
         instruction(2, 0x0300_0000, 0x9800),
-    );
+    )?;
     show(
-        b"Thumb internal cycle: LDMIA, 0xBA01; none: ADD",
+        rt,
+        "Thumb internal cycle: LDMIA, 0xBA01; none: ADD",
         instruction(2, 0x0300_0000, 0xC801),
         instruction(2, 0x0300_0000, 0xBA01),
         instruction(2, 0x0300_0000, 0x1C00),
-    );
+    )
+}
+
+// Prices of fetches from ROM, by the address as given and behind an idle cycle.
+fn fetch_prices<P: Print>(rt: &P) -> io::Result<()> {
     show(
-        b"The block rule takes the address as given",
+        rt,
+        "The block rule takes the address as given",
         instruction(2, 0x0802_0000, 0x1C00),
         instruction(2, 0x0802_0001, 0x1C00),
         instruction(4, 0x0801_FFFE, 0xE1A0_0000),
-    );
+    )?;
     show(
-        b"The disable bug: the fetch after an internal cycle is nonsequential",
+        rt,
+        "The disable bug: the fetch after an internal cycle is nonsequential",
         instruction(4, 0x0800_0100, 0xE591_0000),
         instruction(4, 0x0800_0104, 0xE1A0_0000),
         instruction(4, 0x0800_0108, 0xE1A0_0000),
-    );
+    )
 }
 
-fn main() {
-    data_prices();
-    common_setting();
-    wait_fields();
-    mirrors();
-    latch_and_video();
-    video_modes();
-    places();
-    instructions();
-    buffer();
+fn main(rt: HostRuntime) -> io::Result<()> {
+    data_prices(&rt)?;
+    common_setting(&rt)?;
+    first_fields(&rt)?;
+    second_fields(&rt)?;
+    mirrors(&rt)?;
+    latch_and_video(&rt)?;
+    video_modes(&rt)?;
+    places(&rt)?;
+    cartridge_places(&rt)?;
+    internal_cycles(&rt)?;
+    fetch_prices(&rt)?;
+    buffer(&rt)
 }

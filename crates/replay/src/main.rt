@@ -26,8 +26,9 @@ ghost use Rattle.replay.specs.Head.{head_fits, head_lengths, head_asked};
 
 use bts::{Bill, Report};
 use le::word_at;
-use libc::{STDIN_FILENO, STDOUT_FILENO};
 use model::Lengths;
+use std::io;
+use std::io::Read;
 
 // How a case, or a part of it, came out: whether the sample had all of it, and whether nothing differed.
 #[derive(Clone, Copy)]
@@ -50,20 +51,17 @@ fn both(a: Found, b: Found) -> Found {
     }
 }
 
-fn tell(case: u32, what: &[u8]) {
-    io::write_all(STDOUT_FILENO, b"case ");
-    io::print_decimal(STDOUT_FILENO, case as u64);
-    io::write_all(STDOUT_FILENO, b": ");
-    io::write_all(STDOUT_FILENO, what);
-    io::write_all(STDOUT_FILENO, b"\n");
+// A line that can't be written stops nothing: the count at the end has its case too.
+fn tell<P: Print>(rt: &P, case: u32, what: &str) {
+    let _ = println!(rt; "case {case}: {what}");
 }
 
 // Tells a difference, and hands on whether it is none.
-fn told(case: u32, what: &[u8], same: bool) -> bool
+fn told<P: Print>(rt: &P, case: u32, what: &str, same: bool) -> bool
     ensures { result ≡ same }
 {
     if !same {
-        tell(case, what);
+        tell(rt, case, what);
     }
     same
 }
@@ -115,56 +113,62 @@ fn doubleword(low: u32, high: u32) -> u64
     low as u64 + high as u64 * 0x1_0000_0000
 }
 
-fn compare_report(case: u32, got: Bill) -> Found {
+fn compare_report<P: Print, R: Read>(rt: &P, input: &mut R, case: u32, got: Bill) -> Found {
     let mut want = [0u8; 16];
-    if io::read_full(STDIN_FILENO, &mut want) < 16 {
+    if input.read_exact(&mut want).is_err() {
         return bad_sample();
     }
-    let number = told(case, b"number", got.number == word_at(&want, 0));
-    let index = told(case, b"index", got.index == word_at(&want, 4));
+    let number = told(rt, case, "number", got.number == word_at(&want, 0));
+    let index = told(rt, case, "index", got.index == word_at(&want, 4));
     let total = doubleword(word_at(&want, 8), word_at(&want, 12));
-    let same_total = told(case, b"total", got.total == total);
+    let same_total = told(rt, case, "total", got.total == total);
     Found {
         whole: true,
         same: number & index & same_total,
     }
 }
 
-fn compare_charge(case: u32, got: u64) -> Found {
+fn compare_charge<P: Print, R: Read>(rt: &P, input: &mut R, case: u32, got: u64) -> Found {
     let mut want = [0u8; 8];
-    if io::read_full(STDIN_FILENO, &mut want) < 8 {
+    if input.read_exact(&mut want).is_err() {
         return bad_sample();
     }
     let charge = doubleword(word_at(&want, 0), word_at(&want, 4));
     Found {
         whole: true,
-        same: told(case, b"charge", got == charge),
+        same: told(rt, case, "charge", got == charge),
     }
 }
 
 // No board, no answers, no shares and no grounds of the sample are longer than this.
 const MOST_COMPARED: usize = 131104;
 
-fn compare_bytes(case: u32, what: &[u8], got: &[u8]) -> Found {
+fn compare_bytes<P: Print, R: Read>(
+    rt: &P,
+    input: &mut R,
+    case: u32,
+    what: &str,
+    got: &[u8],
+) -> Found {
     let n = got.len();
     if n > MOST_COMPARED {
         return bad_sample();
     }
     let mut space = [0u8; 131104];
     let want = &mut space[0..n];
-    if io::read_full(STDIN_FILENO, want) < n {
+    if input.read_exact(want).is_err() {
         return bad_sample();
     }
     Found {
         whole: true,
-        same: told(case, what, check::same(got, want)),
+        same: told(rt, case, what, *got == *want),
     }
 }
 
 // One changed byte of the store: it is held against the sample, and then set back to what it was before the run.
-fn undo_change(store: &mut [u8], seed: u32) -> Found {
+fn undo_change<R: Read>(input: &mut R, store: &mut [u8], seed: u32) -> Found {
     let mut change = [0u8; 5];
-    if io::read_full(STDIN_FILENO, &mut change) < 5 {
+    if input.read_exact(&mut change).is_err() {
         return bad_sample();
     }
     let at = word_at(&change, 0) as usize;
@@ -176,11 +180,11 @@ fn undo_change(store: &mut [u8], seed: u32) -> Found {
     Found { whole: true, same }
 }
 
-fn undo_changes(store: &mut [u8], seed: u32, count: u32) -> Found {
+fn undo_changes<R: Read>(input: &mut R, store: &mut [u8], seed: u32, count: u32) -> Found {
     let mut same = true;
     let mut left = count;
     while left > 0 {
-        let one = undo_change(store, seed);
+        let one = undo_change(input, store, seed);
         if !one.whole {
             return bad_sample();
         }
@@ -191,24 +195,31 @@ fn undo_changes(store: &mut [u8], seed: u32, count: u32) -> Found {
 }
 
 // With its changes undone, the store must be as it was before the run, so no second store is needed to compare with.
-fn compare_store(case: u32, store: &mut [u8], seed: u32) -> Found {
+fn compare_store<P: Print, R: Read>(
+    rt: &P,
+    input: &mut R,
+    case: u32,
+    store: &mut [u8],
+    seed: u32,
+) -> Found {
     let mut count = [0u8; 4];
-    if io::read_full(STDIN_FILENO, &mut count) < 4 {
+    if input.read_exact(&mut count).is_err() {
         return bad_sample();
     }
-    let undone = undo_changes(store, seed, word_at(&count, 0));
+    let undone = undo_changes(input, store, seed, word_at(&count, 0));
     if !undone.whole {
         return bad_sample();
     }
     let rest = pattern::is_filled(store, seed, pattern::STORE);
     Found {
         whole: true,
-        same: told(case, b"store", undone.same & rest),
+        same: told(rt, case, "store", undone.same & rest),
     }
 }
 
 // Reads the sheet and the board and makes the rest. False where the sample ends before that.
-fn set_up(
+fn set_up<R: Read>(
+    input: &mut R,
     sheet: &mut [u8],
     board: &mut [u8],
     store: &mut [u8],
@@ -218,10 +229,10 @@ fn set_up(
     second: &mut [u8],
     seed: u32,
 ) -> bool {
-    if io::read_full(STDIN_FILENO, sheet) < sheet.len() {
+    if input.read_exact(sheet).is_err() {
         return false;
     }
-    if io::read_full(STDIN_FILENO, board) < board.len() {
+    if input.read_exact(board).is_err() {
         return false;
     }
     pattern::fill(store, seed, pattern::STORE);
@@ -318,7 +329,9 @@ fn run(
 }
 
 // Compares what a run left, in the sample's order.
-fn compare(
+fn compare<P: Print, R: Read>(
+    rt: &P,
+    input: &mut R,
     case: u32,
     bill: Bill,
     board: &[u8],
@@ -327,17 +340,19 @@ fn compare(
     second: &[u8],
     seed: u32,
 ) -> Found {
-    let one = compare_report(case, bill);
-    let two = compare_charge(case, bill.charge);
-    let three = compare_bytes(case, b"board", board);
-    let four = compare_bytes(case, b"answers", answers);
-    let five = compare_bytes(case, b"shares or grounds", second);
-    let six = compare_store(case, store, seed);
+    let one = compare_report(rt, input, case, bill);
+    let two = compare_charge(rt, input, case, bill.charge);
+    let three = compare_bytes(rt, input, case, "board", board);
+    let four = compare_bytes(rt, input, case, "answers", answers);
+    let five = compare_bytes(rt, input, case, "shares or grounds", second);
+    let six = compare_store(rt, input, case, store, seed);
     both(both(both(one, two), both(three, four)), both(five, six))
 }
 
 // A case that is set up.
-fn replay_ready(
+fn replay_ready<P: Print, R: Read>(
+    rt: &P,
+    input: &mut R,
     case: u32,
     sheet: &[u8],
     board: &mut [u8],
@@ -353,11 +368,13 @@ fn replay_ready(
     let bill = run(
         sheet, board, store, bios, rom, answers, second, lengths, asked,
     );
-    compare(case, bill, board, store, answers, second, seed)
+    compare(rt, input, case, bill, board, store, answers, second, seed)
 }
 
 // A case whose buffers have the lengths that the sample says.
-fn replay_lent(
+fn replay_lent<P: Print, R: Read>(
+    rt: &P,
+    input: &mut R,
     case: u32,
     sheet: &mut [u8],
     board: &mut [u8],
@@ -370,11 +387,11 @@ fn replay_lent(
     asked: Asked,
 ) -> Found {
     let seed = asked.seed;
-    if !set_up(sheet, board, store, bios, rom, answers, second, seed) {
+    if !set_up(input, sheet, board, store, bios, rom, answers, second, seed) {
         return bad_sample();
     }
     replay_ready(
-        case, sheet, board, store, bios, rom, answers, second, lengths, asked,
+        rt, input, case, sheet, board, store, bios, rom, answers, second, lengths, asked,
     )
 }
 
@@ -400,7 +417,7 @@ fn at_most(n: u32, most: usize) -> usize
 
 // A case with its head read. Each buffer is as long as the most that a case of the sample lends, and as much of it is lent as the
 // head says.
-fn replay_headed(case: u32, head: &[u8]) -> Found {
+fn replay_headed<P: Print, R: Read>(rt: &P, input: &mut R, case: u32, head: &[u8]) -> Found {
     if !fits(head) {
         return bad_sample();
     }
@@ -421,6 +438,8 @@ fn replay_headed(case: u32, head: &[u8]) -> Found {
     let memories = lengths_of(head);
     let asked = asked_of(head);
     replay_lent(
+        rt,
+        input,
         case,
         &mut sheet[0..a],
         &mut board[0..b],
@@ -434,22 +453,22 @@ fn replay_headed(case: u32, head: &[u8]) -> Found {
     )
 }
 
-fn replay_case(case: u32) -> Found {
+fn replay_case<P: Print, R: Read>(rt: &P, input: &mut R, case: u32) -> Found {
     let mut head = [0u8; 68];
-    if io::read_full(STDIN_FILENO, &mut head) < 68 {
+    if input.read_exact(&mut head).is_err() {
         return bad_sample();
     }
-    replay_headed(case, &head)
+    replay_headed(rt, input, case, &head)
 }
 
 // Replays cases until all are done or one is cut off or too long, and answers how many agree.
-fn replay_all(count: u32) -> u32 {
+fn replay_all<P: Print, R: Read>(rt: &P, input: &mut R, count: u32) -> u32 {
     let mut agree: u32 = 0;
     let mut case: u32 = 0;
     while case < count {
-        let found = replay_case(case);
+        let found = replay_case(rt, input, case);
         if !found.whole {
-            tell(case, b"bad sample");
+            tell(rt, case, "bad sample");
             return agree;
         }
         agree += le::bit(found.same) as u32;
@@ -458,19 +477,16 @@ fn replay_all(count: u32) -> u32 {
     agree
 }
 
-fn replay(count: u32) {
-    let agree = replay_all(count);
-    io::print_decimal(STDOUT_FILENO, agree as u64);
-    io::write_all(STDOUT_FILENO, b" of ");
-    io::print_decimal(STDOUT_FILENO, count as u64);
-    io::write_all(STDOUT_FILENO, b" agree\n");
+fn replay<P: Print, R: Read>(rt: &P, input: &mut R, count: u32) -> io::Result<()> {
+    let agree = replay_all(rt, input, count);
+    println!(rt; "{agree} of {count} agree")
 }
 
-fn main() {
+fn main(rt: HostRuntime) -> io::Result<()> {
+    let mut input = rt.reader();
     let mut count = [0u8; 4];
-    if io::read_full(STDIN_FILENO, &mut count) < 4 {
-        io::write_all(STDOUT_FILENO, b"bad sample\n");
-        return;
+    if input.read_exact(&mut count).is_err() {
+        return println!(rt; "bad sample");
     }
-    replay(word_at(&count, 0));
+    replay(&rt, &mut input, word_at(&count, 0))
 }
