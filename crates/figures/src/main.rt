@@ -326,7 +326,7 @@ fn first_fields<P: Print>(rt: &P) -> io::Result<()> {
     )
 }
 
-// And those for a second one, in each window.
+// Those for a second one, in each window.
 fn second_fields<P: Print>(rt: &P) -> io::Result<()> {
     show(
         rt,
@@ -512,7 +512,7 @@ fn places<P: Print>(rt: &P) -> io::Result<()> {
     )
 }
 
-// The cartridge by each of its windows, and SRAM by both of its pages.
+// The same in the cartridge: a word across ROM and SRAM, the ROM's three windows, both pages of SRAM.
 fn cartridge_places<P: Print>(rt: &P) -> io::Result<()> {
     show(
         rt,
