@@ -1,4 +1,4 @@
--- What the machine does, as definitions; then the laws that they obey.
+-- What the machine does, as definitions; then the words of the laws that they obey (proofs/Laws).
 pub mod Base
 pub mod Region
 pub mod Mirror
