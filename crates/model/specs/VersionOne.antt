@@ -1,5 +1,5 @@
 -- What a sheet meant before version 2 (W-207): the definitions of document 01 for version 1, as they were when it was the only
--- one. No contract cites them; Laws/VersionOne.antt has that a version 1 sheet still means what they say.
+-- one. No contract cites them; proofs/Laws/VersionOne.antt has that a version 1 sheet still means what they say.
 use Rattle.std.specs.Prelude.{Bool, not, ◌&&◌, ◌||◌, List, [], ◌∷◌, ◌++◌, map, ℕ, ◌+◌, ◌%◌, length, eqb, ltb, leb}
 use Rattle.std.specs.Prelude.{if◌then◌else◌}
 use Rattle.model.specs.Base.{bit}
