@@ -165,7 +165,8 @@ module _ {next addr words : ℕ} {out : List ℕ} {place from at : ℕ} where
 
   -- as the code has it, of size 4
   pub turn : {left : ℕ} {b : Beats} {k behind on : ℕ} → Telling next addr words out place from at left → 0 < left
-      → beats_of b ≡ beat_bytes (data_from from (access_size_of 4) at) → k ≡ beat_count b → behind ≡ data_next (access_size_of 4) at
+      → beats_of b ≡ beat_bytes (data_from from (access_size_of 4) at) → k ≡ beat_count b
+      → behind ≡ data_next (access_size_of 4) at
       → on ≡ further 4 at
       → Telling next addr words (set (set out place b.first) (place + 1) b.second) (place + k) behind on (left - 1)
   turn {left} {b} t h e many n f =

@@ -52,7 +52,8 @@ found xs base n i {w} =
 module _ (l : Lengths) (b : Bus) (z : AccessSize) (a : ℕ) (fits : a < 2 ^ 32) (aligned : a % size_bytes_of z ≡ 0)
     (store : AllBytes b.store) (rom : AllBytes b.rom) where
   -- the low bytes of a word where the load's bytes stand
-  low : {xs : List ℕ} {q w : ℕ} → AllBytes xs → AlignedWord l b a xs q → w ≡ number 4 xs q → w % 256 ^ size_bytes_of z ≡ load l b z a
+  low : {xs : List ℕ} {q w : ℕ} → AllBytes xs → AlignedWord l b a xs q → w ≡ number 4 xs q
+      → w % 256 ^ size_bytes_of z ≡ load l b z a
   low {xs} {q} k s e = ap (λ (n : ℕ). n % 256 ^ size_bytes_of z) e ∙ sym (aligned_load l b a fits xs q s k z aligned)
 
   by_target : (t : Target) {w : ℕ} → target l a ≡ t → word_from b.rom b.store a t ≡ loaded.Word w

@@ -48,7 +48,8 @@ record_count s = number 2 s 6
 
 -- byte 5 is zero, there are not too many records, and the sheet is as long as they are
 abbrev pub is_shaped : List ℕ → Bool
-is_shaped s = eqb (byte_at s 5) 0 && leb (record_count s) max_records && eqb (length s) (header_length + record_length * record_count s)
+is_shaped s =
+    eqb (byte_at s 5) 0 && leb (record_count s) max_records && eqb (length s) (header_length + record_length * record_count s)
 
 -- ---- a record: 12 bytes
 
@@ -87,8 +88,8 @@ isa_state size = if eqb size 2 then Thumb else Arm
 abbrev pub max_words : ℕ
 max_words = 16
 
--- the words of a block are as many as its value says, 1 to 16. Another number is refused, and for how many words it would stand is
--- no matter
+-- the words of a block are as many as its value says, 1 to 16. Another number is refused, and for how many words it would stand
+-- is no matter
 unfoldable pub words_of : ℕ → ℕ
 words_of value = max 1 (min value max_words)
 

@@ -127,12 +127,14 @@ module _ (n rate : ℕ) (answers lent : List ℕ) where
           numbers_bytes share_length
           (shares_after rate (cycles_to answers (k - 1)) (x ∷ cycles_from answers j (n - k))))
           (sym step) one_on
-          ∙ ap₂ (λ (x y : ℕ). bytes share_length x ++ numbers_bytes share_length (shares_after rate y (cycles_from answers k (n - k))))
+          ∙ ap₂ (λ (x y : ℕ). bytes share_length x ++ numbers_bytes share_length
+          (shares_after rate y (cycles_from answers k (n - k))))
           (ap₂ (λ (x y : ℕ). x - y) (sym due_is) (sym before_is)) (sym up)
 
       pub turn : {part : ℕ} {share : List ℕ} → part ≡ share_length
           → share ≡ bytes share_length (due - (left - c * rate) / rate_cycles)
-          → Going (put_mid (share_length * (k - 1)) part written share) (left - c * rate) ((left - c * rate) / rate_cycles) (k - 1)
+          → Going (put_mid (share_length * (k - 1)) part written share) (left - c * rate)
+          ((left - c * rate) / rate_cycles) (k - 1)
       turn {part} {share} eight e =
           let a : ℕ = share_length * (k - 1) in
           let rest : List ℕ = drop (share_length * n) lent in

@@ -14,4 +14,5 @@ abbrev pub PlainPrice : ℕ → IsaState → ℕ → Type 0
 PlainPrice a isa n = (t : Waits) → n ≡ beat_cycles t (plain_beat a isa)
 
 abbrev pub fetch_price : Waits → PrefetchBuffer → ℕ → AccessKind → IsaState → FetchPrice
-fetch_price t p a k isa = record { cycles = price t (fetch_beats_in p a k isa (window a)); cart_idle = idle_in t a isa (window a) }
+fetch_price t p a k isa =
+    record { cycles = price t (fetch_beats_in p a k isa (window a)); cart_idle = idle_in t a isa (window a) }

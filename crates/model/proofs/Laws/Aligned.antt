@@ -53,7 +53,8 @@ module _ (l : Lengths) (b : Bus) (a : ℕ) (t : a < 2 ^ 32) (xs : List ℕ) (q :
       ∙ sym (number_add 2 2 xs q)
 
   -- whatever the size, out of the word that stands there
-  pub aligned_load : AllBytes xs → (z : AccessSize) → a % size_bytes_of z ≡ 0 → load l b z a ≡ number 4 xs q % 256 ^ size_bytes_of z
+  pub aligned_load : AllBytes xs → (z : AccessSize) → a % size_bytes_of z ≡ 0
+      → load l b z a ≡ number 4 xs q % 256 ^ size_bytes_of z
   aligned_load k Byte h = load_aligned Byte h ∙ sym (number_low 1 3 xs q k)
   aligned_load k Half h = load_aligned Half h ∙ sym (number_low 2 2 xs q k)
   aligned_load k Word h = load_aligned Word h ∙ sym (number_low 4 0 xs q k)

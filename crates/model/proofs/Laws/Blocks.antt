@@ -55,7 +55,8 @@ module _ (m : Media) where
 read_names : (c : Clock) (a n : ℕ) → grounds c (BlockRead a n) ≡ joined_grounds (grounds_after c (read_words a n))
 unfolding grounds_after ticks
 read_names c a zero = refl
-read_names c a (suc n) = ap (λ (gs : List Ground). grounds c (Read Word a) ++ gs) (read_names (clock_after c (Read Word a)) (further 4 a) n)
+read_names c a (suc n) =
+    ap (λ (gs : List Ground). grounds c (Read Word a) ++ gs) (read_names (clock_after c (Read Word a)) (further 4 a) n)
 
 pub read_stands : (m : Media) (s : State) (a n : ℕ) → StandsFor m s (BlockRead a n) (read_words a n)
 read_stands m s a n =

@@ -369,7 +369,8 @@ fields_read b k x =
 
 pub encode_formed : (b : List ℕ) → AllBytes b → WellFormed b → board_bytes (board_of b) ≡ b
 unfolding board_bytes clock_of contents_of
-encode_formed b h k = ap encoded (fields_read b k) ∙ fields_back widths b 0 h (omega arith) ∙ take_all board_length b (omega arith)
+encode_formed b h k =
+    ap encoded (fields_read b k) ∙ fields_back widths b 0 h (omega arith) ∙ take_all board_length b (omega arith)
 
 pub encode_decode : (b : List ℕ) → AllBytes b → sound b ≡ true → board_bytes (board_of b) ≡ b
 encode_decode b h e = encode_formed b h (sound_formed b e)

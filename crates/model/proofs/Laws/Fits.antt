@@ -98,7 +98,8 @@ written_sound b k eight =
     (and-true _ _
     (and-true _ _
     (and-true _ _
-    (and-true _ _ (eq-eqb (byte_at (board_bytes b) 7) 0 (zero_byte_law b)) (eq-eqb (number 7 (board_bytes b) 73) 0 (zero_bytes b eight)))
+    (and-true _ _ (eq-eqb (byte_at (board_bytes b) 7) 0 (zero_byte_law b))
+    (eq-eqb (number 7 (board_bytes b) 73) 0 (zero_bytes b eight)))
     (written_flag _ b.clock.force_next_fetch_n (force_byte b)))
     (written_flag _ b.clock.prefetch.filling (filling_byte b)))
     (written_flag _ b.clock.prefetch.first_beat (first_byte b)))

@@ -140,7 +140,8 @@ data_test : (p : Previous) (z : AccessSize) (a j : ℕ) (g : Ground)
 unfolding data_grounds first_ground
 data_test p z a j g =
     let n = aligned z a in
-    bus_test z (first_ground p n) (first_condition (force_nonseq n) (kind_after p n)) (first_test (force_nonseq n) (kind_after p n)) j g
+    bus_test z (first_ground p n) (first_condition (force_nonseq n) (kind_after p n))
+    (first_test (force_nonseq n) (kind_after p n)) j g
     (bus_of (decode a))
 
 -- a beat of two lists of grounds, one behind the other: of the first, or of the second
@@ -251,7 +252,8 @@ wide_worth t f Word b c g h e d = ap₂ (λ (n m : ℕ). n + (m + 0)) e d
 -- over a bus, where the first beat from ROM is of a kind that the ground tells
 bus_worth : (w : ℕ) (z : AccessSize) (k : AccessKind) (g : Ground)
     → ((win : RomWindow) → rom_half_cycles (rom_waits_of w) win k ≡ ground_cycles w (In win) Half g) → (b : Bus)
-    → price (rom_waits_of w) (data_beats_on (sram_waits w) z k b) ≡ sum (map (ground_cycles w (bus_window b) Half) (data_grounds_on z g b))
+    → price (rom_waits_of w) (data_beats_on (sram_waits w) z k b)
+    ≡ sum (map (ground_cycles w (bus_window b) Half) (data_grounds_on z g b))
 bus_worth w z k g first OnEwram =
     wide_worth (rom_waits_of w) (ground_cycles w Outside Half) z (EwramBeat Half) (EwramBeat Half) EwramBus EwramBus refl refl
 bus_worth w z k g first OnVideo =
@@ -271,7 +273,8 @@ first_worth : (w : ℕ) (p : Previous) (n : ℕ) (win : RomWindow)
     → rom_half_cycles (rom_waits_of w) win (kind_at n (kind_after p n)) ≡ ground_cycles w (In win) Half (first_ground p n)
 unfolding kind_at first_ground
 first_worth w p n win =
-    choose₂ (λ (k : AccessKind) (g : Ground). rom_half_cycles (rom_waits_of w) win k ≡ ground_cycles w (In win) Half g) (force_nonseq n)
+    choose₂ (λ (k : AccessKind) (g : Ground). rom_half_cycles (rom_waits_of w) win k ≡ ground_cycles w (In win) Half g)
+    (force_nonseq n)
     (λ e. refl) (λ e. kind_worth w win (kind_after p n))
 
 data_worth : (w : ℕ) (p : Previous) (z : AccessSize) (a : ℕ)
@@ -302,18 +305,21 @@ flag_worth w z win true = refl
 flag_worth w z win false = refl
 
 half_worth : (w : ℕ) (z : AccessSize) (p : PrefetchBuffer) (forced : Bool) (a : ℕ) (win : RomWindow)
-    → beat_cycles (rom_waits_of w) (half_beat p a win (nonseq_if forced)) ≡ ground_cycles w (In win) z (half_ground (hit p) forced a)
+    → beat_cycles (rom_waits_of w) (half_beat p a win (nonseq_if forced))
+    ≡ ground_cycles w (In win) z (half_ground (hit p) forced a)
 unfolding half_beat half_ground kind_at
 half_worth w z p forced a win =
     choose₂ (λ (b : Beat) (g : Ground). beat_cycles (rom_waits_of w) b ≡ ground_cycles w (In win) z g) (hit p a) (λ e. refl)
-    λ e. choose₂ (λ (k : AccessKind) (g : Ground). rom_half_cycles (rom_waits_of w) win k ≡ ground_cycles w (In win) z g) (force_nonseq a)
+    λ e. choose₂ (λ (k : AccessKind) (g : Ground). rom_half_cycles (rom_waits_of w) win k ≡ ground_cycles w (In win) z g)
+    (force_nonseq a)
     (λ f. refl) (λ f. flag_worth w z win forced)
 
 plain_worth : (w : ℕ) (a : ℕ) (isa : IsaState)
     → beat_cycles (rom_waits_of w) (plain_beat a isa) ≡ ground_cycles w Outside (code_size isa) (plain_ground a)
 unfolding plain_beat plain_ground
 plain_worth w a isa =
-    choose₂ (λ (b : Beat) (g : Ground). beat_cycles (rom_waits_of w) b ≡ ground_cycles w Outside (code_size isa) g) (eqb (page a) 0x02)
+    choose₂ (λ (b : Beat) (g : Ground). beat_cycles (rom_waits_of w) b ≡ ground_cycles w Outside (code_size isa) g)
+    (eqb (page a) 0x02)
     (λ e. refl) (λ e. refl)
 
 fetch_worth_in : (w : ℕ) (p : PrefetchBuffer) (forced : Bool) (isa : IsaState) (a : ℕ) (v : Windowed)
@@ -407,7 +413,8 @@ data_few p z a = bus_few z (first_ground p (aligned z a)) (bus_of (decode a))
 
 fetch_few_in : (hits : ℕ → Bool) (forced : Bool) (a : ℕ) (isa : IsaState) (v : Windowed)
     → Few (fetch_grounds_in hits forced a isa v)
-fetch_few_in hits forced a isa (In win) = wide_few (code_size isa) (half_ground hits forced a) (half_ground hits false (further 2 a))
+fetch_few_in hits forced a isa (In win) =
+    wide_few (code_size isa) (half_ground hits forced a) (half_ground hits false (further 2 a))
 fetch_few_in hits forced a isa Outside = omega arith
 
 fetch_few : (hits : ℕ → Bool) (forced : Bool) (isa : IsaState) (a : ℕ) → Few (fetch_grounds hits forced isa a)

@@ -85,7 +85,8 @@ video_places false Byte p i v u = refl
 video_places fill Half p i v u = bytes_places p (lowered 2 i) 2 v u
 video_places fill Word p i v u = bytes_places p (lowered 4 i) 4 v u
 
-places_at : (mode : ℕ) (z : AccessSize) (a v u : ℕ) (t : Target) → places_of (puts_at mode z a v t) ≡ places_of (puts_at mode z a u t)
+places_at : (mode : ℕ) (z : AccessSize) (a v u : ℕ) (t : Target)
+    → places_of (puts_at mode z a v t) ≡ places_of (puts_at mode z a u t)
 places_at mode z a v u Unused = refl
 places_at mode z a v u SystemRom = refl
 places_at mode z a v u GamePakRom = refl

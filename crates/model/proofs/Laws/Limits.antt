@@ -65,7 +65,8 @@ preview_limits c (r ∷ rs) f =
     omega arith
 
 -- the records of a sheet, of which none is faulty
-pub all_faultless : (s : List ℕ) (k n : ℕ) → ((j : ℕ) → j < k + n → Faultless (record_at s j)) → All Faultless (records_from s k n)
+pub all_faultless : (s : List ℕ) (k n : ℕ) → ((j : ℕ) → j < k + n → Faultless (record_at s j))
+    → All Faultless (records_from s k n)
 unfolding records_from
 all_faultless s k zero h = tt
 all_faultless s k (suc n) h = (h k (omega arith), all_faultless s (k + 1) n (λ j l. h j (omega arith)))

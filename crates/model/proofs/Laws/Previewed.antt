@@ -55,7 +55,8 @@ each_answer_law f g h (r ∷ rs) (y ∷ ys) rest l =
 zeroed_answer : (r : SheetRecord) (y : Answer) → zeroed r.kind (answer_bytes y) ≡ answer_bytes (blanked (step_of r) y)
 unfolding zeroed
 zeroed_answer r y =
-    by_kind (λ (k : ℕ) (x : Step). zeroed k (answer_bytes y) ≡ answer_bytes (blanked x y)) r refl refl refl refl refl refl refl refl
+    by_kind (λ (k : ℕ) (x : Step). zeroed k (answer_bytes y) ≡ answer_bytes (blanked x y))
+    r refl refl refl refl refl refl refl refl
     refl refl (λ o. rw (o.read, o.write, o.fetch, o.block_read, o.block_write))
 
 -- ---- a preview is the run, but for the zeros

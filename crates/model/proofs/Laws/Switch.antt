@@ -35,7 +35,8 @@ module _ (t : Waits) where
   restart_switch p a = either (Keeps p) p.enabled (restart_in_switch p a (window a)) refl
 
   -- a restart drains: what it leaves depends on the switch alone
-  restart_in_anew : (p q : PrefetchBuffer) (a : ℕ) (v : Windowed) → p.enabled ≡ q.enabled → restart_in t p a v ≡ restart_in t q a v
+  restart_in_anew : (p q : PrefetchBuffer) (a : ℕ) (v : Windowed) → p.enabled ≡ q.enabled
+      → restart_in t p a v ≡ restart_in t q a v
   restart_in_anew p q a (In win) e = rw e refl
   restart_in_anew p q a Outside e = rw e refl
 

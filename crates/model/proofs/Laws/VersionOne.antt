@@ -136,7 +136,8 @@ module _ (i : Lent) (one : version_of i.sheet ≡ 1) where
   by_verdict : (v : Verdict) → verdict i ≡ v → outcome_by i v ≡ outcome_of i (ran₁ i) v
   unfolding outcome
   by_verdict (Refused r) e = refl
-  by_verdict Accepted e = ap (λ (d : Result). outcome_of i d Accepted) (same_ran (ap (λ (v : Verdict). (outcome_by i v).number) e))
+  by_verdict Accepted e =
+      ap (λ (d : Result). outcome_of i d Accepted) (same_ran (ap (λ (v : Verdict). (outcome_by i v).number) e))
 
   -- the sentence of the request
   pub version_one : outcome i ≡ outcome₁ i

@@ -41,7 +41,8 @@ unfolding arm_internal thumb_internal half_beat plain_beat fetch_beats cart_idle
 prices = tt
 
 unfoldable pub memories : Unit {0}
-unfolding decode vram_offset io_offset obj_vram_base is_obj_vram byte_in sram_byte bios_byte load8 load16 load32 put target mode_of puts
+unfolding decode vram_offset io_offset obj_vram_base is_obj_vram byte_in sram_byte bios_byte load8 load16 load32
+    put target mode_of puts
 memories = tt
 
 unfoldable pub machine : Unit {0}
