@@ -24,7 +24,7 @@ use Rattle.model.proofs.Laws.Limits.{words_between}
 use Rattle.grounds.specs.Trail.{beats_of, beat_count, ground_at, data_from, data_next, block_from, block_next, TellsBlock}
 
 -- the words of a block are few
-pub ruleset few_words = (words_between)
+pub ruleset word_laws = (words_between)
 
 -- ---- one byte more
 

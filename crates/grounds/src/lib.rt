@@ -282,7 +282,7 @@ fn passed(trail: Trail, r: SheetRecord, taken: u8) -> Trail
 }
 
 // Tells the grounds of a record's step, and follows the trail over it. `taken` is its hits byte.
-#[tactic(auto, using(crate::proofs::Words::few_words), unfolding(crate::specs::Trail::beats_by, crate::specs::Trail::trail_after))]
+#[tactic(auto, using(crate::proofs::Words::word_laws), unfolding(crate::specs::Trail::beats_by, crate::specs::Trail::trail_after))]
 fn tell(out: &mut [u8], trail: Trail, before: Before, r: SheetRecord, taken: u8) -> Trail
     requires { length out.old ≡ def.grounds_length }
     ensures { trails.Tells trail before r taken out.new result }

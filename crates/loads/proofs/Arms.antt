@@ -69,4 +69,4 @@ module _ (l : Lengths) (b : Bus) (a : ℕ) {t : Target} (m : t ≡ target l a) w
 
 -- ---- as the tactics use them
 
-pub ruleset wide = (meets_lies)
+pub ruleset wide_laws = (meets_lies)

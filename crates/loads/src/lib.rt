@@ -68,7 +68,7 @@ fn read8(
 }
 
 // `read16`: two byte loads, each decoded by itself; SRAM repeats its one byte.
-#[tactic(auto, using(crate::proofs::Arms::wide), unfolding(model::specs::Load::load8, model::specs::Load::load16))]
+#[tactic(auto, using(crate::proofs::Arms::wide_laws), unfolding(model::specs::Load::load8, model::specs::Load::load16))]
 fn read16(
     target: Target,
     addr: u32,
@@ -93,7 +93,7 @@ fn read16(
 
 // `read32`: two halfword loads, each decoded by itself. A block (W-207) takes its last word by it, so that `read` has one caller,
 // into which the compiler puts it.
-#[tactic(auto, using(crate::proofs::Arms::wide), unfolding(model::specs::Load::load8, model::specs::Load::load32))]
+#[tactic(auto, using(crate::proofs::Arms::wide_laws), unfolding(model::specs::Load::load8, model::specs::Load::load32))]
 pub fn read32(
     target: Target,
     addr: u32,
@@ -198,7 +198,7 @@ fn reads_zero(target: Target) -> bool
 }
 
 // By bytes, each decoded by itself, as the Rust does it. Over no store and no ROM, as in a preview, an aligned load is 0 at once.
-#[tactic(auto, using(crate::proofs::Arms::wide), unfolding(model::specs::Load::load8))]
+#[tactic(auto, using(crate::proofs::Arms::wide_laws), unfolding(model::specs::Load::load8))]
 fn read_apart(
     size: AccessSize,
     target: Target,
@@ -224,7 +224,7 @@ fn read_apart(
 }
 
 // A load of any size. An aligned one whose word stands in its memory is part of that word, which saves a decoding for each byte.
-#[tactic(auto, using(crate::proofs::Arms::wide))]
+#[tactic(auto, using(crate::proofs::Arms::wide_laws))]
 pub fn read(
     size: AccessSize,
     target: Target,

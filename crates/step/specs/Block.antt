@@ -73,7 +73,7 @@ module _ {w : ℕ} {p₀ : Previous} {a₀ n₀ : ℕ} where
 
 -- ---- the clock behind it
 
-last_access : (p : Previous) (a n : ℕ) → a < 2 ^ 32 → block_previous p a (suc n) ≡ access_of Word (further (4 * n) a)
+pub last_access : (p : Previous) (a n : ℕ) → a < 2 ^ 32 → block_previous p a (suc n) ≡ access_of Word (further (4 * n) a)
 last_access p a zero h = ap (access_of Word) (omega arith)
 last_access p a (suc n) h = last_access (access_of Word a) (further 4 a) n (omega arith) ∙ ap (access_of Word) (omega arith)
 

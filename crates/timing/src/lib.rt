@@ -147,7 +147,7 @@ pub fn price_insn(input: TimingInput, waits: [[u8; 2]; 3], prefetch: PrefetchBuf
 
 // The kind of a data access to ROM at a lowered address, from the previous one (W-204). What goes on where that ended, and begins
 // no block, lies in one block with it: the regions are the same, and need not be decoded to be compared.
-#[tactic(auto, using(crate::proofs::Laws::rom_kind), unfolding(model::specs::Price::kind_after))]
+#[tactic(auto, using(crate::proofs::Laws::kind_in_rom), unfolding(model::specs::Price::kind_after))]
 fn rom_kind_after(prev_addr: u32, prev_size: u32, addr: u32) -> AccessKind
     requires { SoundPrevious (previously prev_addr prev_size) × InRom addr }
     ensures { result ≡ kind_after (previously prev_addr prev_size) addr }
