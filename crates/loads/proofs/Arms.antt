@@ -1,10 +1,10 @@
 -- What the arms and branches of the loads have in common: a callee's answer and the branch taken decide a test of the
 -- definitions. Assumes nothing.
-use Rattle.std.proofs.Common.{◌≡◌, ℕ, ◌+◌, ◌*◌, Bool, true, false, ltb, List, length, sym, refl, ap, ◌∙◌, ap₂}
+use Rattle.std.proofs.Common.{◌≡◌, ℕ, ◌+◌, ◌*◌, Bool, true, false, ltb, List, length, sym, refl, ap, ◌∙◌, ap₂, subst}
 use Rattle.std.specs.Prelude.{if◌then◌else◌}
 use Rattle.model.specs.Base.{further}
 use Rattle.model.specs.Region.{bios_size}
-use Rattle.model.specs.Memory.{target, is_sram}
+use Rattle.model.specs.Memory.{target, is_sram, lengths_sum}
 use Rattle.model.specs.Load.{Bus, byte_from, load8, load16, load32}
 use Rattle.model.proofs.Laws.Choice.{if_true, if_false}
 use Rattle.model.specs.Laws.Places.{Lies}
@@ -39,6 +39,11 @@ unlatched pc op e = unlatched_case (ltb pc bios_size) op e
 -- the memory that is met lies in the store
 pub meets_lies : (l : Lengths) (a : ℕ) {t : Target} {s : List ℕ} → Meets t l a s → Lies (length s) t
 meets_lies l a m = rw (m.memory, ← m.whole) (target_lies l a)
+
+-- the memory that a target turns out to be lies in the store
+pub met_lies : (l : Lengths) (a : ℕ) (s : List ℕ) {t u : Target} → t ≡ u → t ≡ target l a → lengths_sum l ≡ length s
+    → Lies (length s) u
+met_lies l a s is m whole = subst (Lies (length s)) is (meets_lies l a (record { memory = m; whole = whole }))
 
 module _ (l : Lengths) (b : Bus) (a : ℕ) {t : Target} (m : t ≡ target l a) where
   pub byte_is : {v : ℕ} → v ≡ byte_from b a t → v ≡ load8 l b a

@@ -1,20 +1,43 @@
 // The bus's loads of 1, 2 and 4 bytes over the lent memories. Port of the loads of src/bus/mod.rs (`Bus as CpuMem`). BIOS and ROM
-// are slices of their own; the other memories are parts of one store, with their lengths beside it. The pc and the BIOS latch
-// are handed in by value. A load goes on from the memory that its address meets, which the caller has decoded.
+// are slices of their own; the other memories are parts of one store, with their lengths beside it. A load goes on from the memory
+// that its address meets, which the caller has decoded.
 #![tactic(auto)]
 
 ghost use Rattle.std.specs.Prelude.{◌≡◌, ◌+◌, ◌-◌, ◌%◌, ◌^◌, ◌<◌, ◌≤◌, length};
+ghost use Rattle.model.specs.Base.{AllBytes};
+ghost use Rattle.model.specs.Memory.{lengths_sum, target};
 ghost use Rattle.model.specs.Load as def;
 ghost use Rattle.model.specs.Wait.{size_bytes_of};
 ghost use Rattle.model.specs.Laws.Places.{InPart, Lies};
-ghost use Rattle.loads.specs.Bus.{bus, Meets};
+ghost use Rattle.loads.specs.Bus.{bus, Parted, parted};
 ghost use Rattle.loads.specs.Words as words;
 
 use model::{AccessSize, Lengths, Part, Target};
 use openbus::{OpenBusState, ProtectedRead};
 use parts::{byte_in, is_sram, target_of};
 use region::mirror::rom_offset;
+use std::marker::Model;
 use waits::size_bytes;
+
+// What a load sees: of the board the pc and the BIOS latch, and the lent memories.
+#[derive(Drop)]
+pub struct Bus<'a> {
+    pub pc: u32,
+    pub latch: u32,
+    pub bios: &'a [u8],
+    pub rom: &'a [u8],
+    pub store: &'a [u8],
+    pub lengths: Lengths,
+}
+
+impl<'a> Model for Bus<'a> {
+    ghost Value = { Parted };
+
+    ghost view = { λ b. parted (bus b.pc b.latch b.bios.now b.rom.now b.store.now) b.lengths };
+
+    // The seven memories are the store.
+    ghost invariant = { λ b. lengths_sum b.lengths ≡ length b.store.now };
+}
 
 // The region has shown that the address is below the BIOS's end.
 #[tactic(auto, unfolding(model::specs::Load::bios_byte, openbus::specs::OpenBus::protected_read))]
@@ -44,124 +67,94 @@ fn read_sram8(store: &[u8], part: Part, index: usize) -> u8
     byte_in(store, part, index % size)
 }
 
-// `read8`, in the memory that the address meets.
-fn read8(
-    target: Target,
-    addr: u32,
-    pc: u32,
-    latch: u32,
-    bios: &[u8],
-    rom: &[u8],
-    store: &[u8],
-) -> u8
-    requires { Lies (length store.now) target }
-    ensures { result ≡ def.byte_from (bus pc latch bios.now rom.now store.now) addr target }
-{
-    match target {
-        Target::Unused => 0,
-        Target::SystemRom => read_bios8(addr, pc, latch, bios),
-        Target::GamePakRom => le::byte_at(rom, rom_offset(addr)),
-        Target::Plain(part, index) => byte_in(store, part, index),
-        Target::Video(_memory, part, index) => byte_in(store, part, index),
-        Target::Sram(part, index) => read_sram8(store, part, index),
+impl<'a> Bus<'a> {
+    // `read8`, in the memory that the address meets.
+    #[tactic(auto, using(crate::proofs::Arms::wide_laws), unfolding(model::specs::Load::load8))]
+    fn read8(&self, at: Target, addr: u32) -> u8
+        requires { at ≡ target self.now.lengths addr }
+        ensures { result ≡ def.load8 self.now.lengths self.now.sees addr }
+    {
+        match at {
+            Target::Unused => 0,
+            Target::SystemRom => read_bios8(addr, self.pc, self.latch, self.bios),
+            Target::GamePakRom => le::byte_at(self.rom, rom_offset(addr)),
+            Target::Plain(part, index) | Target::Video(_, part, index) => {
+                byte_in(self.store, part, index)
+            }
+            Target::Sram(part, index) => read_sram8(self.store, part, index),
+        }
     }
-}
 
-// `read16`: two byte loads, each decoded by itself; SRAM repeats its one byte.
-#[tactic(auto, using(crate::proofs::Arms::wide_laws), unfolding(model::specs::Load::load8, model::specs::Load::load16))]
-fn read16(
-    target: Target,
-    addr: u32,
-    pc: u32,
-    latch: u32,
-    bios: &[u8],
-    rom: &[u8],
-    store: &[u8],
-    lengths: Lengths,
-) -> u16
-    requires { Meets target lengths addr store.now }
-    ensures { result ≡ def.load16 lengths (bus pc latch bios.now rom.now store.now) addr }
-{
-    let low = read8(target, addr, pc, latch, bios, rom, store) as u16;
-    if is_sram(target) {
-        return 0x0101 * low;
+    // `read16`: two byte loads, each decoded by itself; SRAM repeats its one byte.
+    #[tactic(auto, using(crate::proofs::Arms::wide_laws), unfolding(model::specs::Load::load16))]
+    fn read16(&self, at: Target, addr: u32) -> u16
+        requires { at ≡ target self.now.lengths addr }
+        ensures { result ≡ def.load16 self.now.lengths self.now.sees addr }
+    {
+        let low = self.read8(at, addr) as u16;
+        if is_sram(at) {
+            return 0x0101 * low;
+        }
+        let next = std::num::wrapping_add_u32(addr, 1);
+        let high = self.read8(target_of(next, self.lengths), next) as u16;
+        low + 0x100 * high
     }
-    let next = std::num::wrapping_add_u32(addr, 1);
-    let high = read8(target_of(next, lengths), next, pc, latch, bios, rom, store) as u16;
-    low + 0x100 * high
-}
 
-// `read32`: two halfword loads, each decoded by itself. A block (W-207) takes its last word by it, so that `read` has one caller,
-// into which the compiler puts it.
-#[tactic(auto, using(crate::proofs::Arms::wide_laws), unfolding(model::specs::Load::load8, model::specs::Load::load32))]
-pub fn read32(
-    target: Target,
-    addr: u32,
-    pc: u32,
-    latch: u32,
-    bios: &[u8],
-    rom: &[u8],
-    store: &[u8],
-    lengths: Lengths,
-) -> u32
-    requires { Meets target lengths addr store.now }
-    ensures { result ≡ def.load32 lengths (bus pc latch bios.now rom.now store.now) addr }
-{
-    if is_sram(target) {
-        return 0x0101_0101 * read8(target, addr, pc, latch, bios, rom, store) as u32;
+    // `read32`: two halfword loads, each decoded by itself. A block (W-207) takes its last word by it, so that `read` has one
+    // caller, into which the compiler puts it.
+    #[tactic(auto, using(crate::proofs::Arms::wide_laws), unfolding(model::specs::Load::load32))]
+    pub fn read32(&self, at: Target, addr: u32) -> u32
+        requires { at ≡ target self.now.lengths addr }
+        ensures { result ≡ def.load32 self.now.lengths self.now.sees addr }
+    {
+        if is_sram(at) {
+            return 0x0101_0101 * self.read8(at, addr) as u32;
+        }
+        let low = self.read16(at, addr) as u32;
+        let next = std::num::wrapping_add_u32(addr, 2);
+        let high = self.read16(target_of(next, self.lengths), next) as u32;
+        low + 0x1_0000 * high
     }
-    let low = read16(target, addr, pc, latch, bios, rom, store, lengths) as u32;
-    let next = std::num::wrapping_add_u32(addr, 2);
-    let other = target_of(next, lengths);
-    let high = read16(other, next, pc, latch, bios, rom, store, lengths) as u32;
-    low + 0x1_0000 * high
 }
 
 // ---- an aligned load, which lies in one memory
 
-// `Option<u32>`: the word at a place, if all four bytes of it stand in the memory.
-#[derive(Clone, Copy)]
-pub enum Loaded {
-    Word(u32),
-    Apart,
-}
-
+// The word at a place, if all four bytes of it stand in the memory.
 #[tactic(auto, unfolding(crate::specs::Words::word_at))]
-fn word_in(store: &[u8], part: Part, index: usize) -> Loaded
+fn word_in(store: &[u8], part: Part, index: usize) -> Option<u32>
     requires { InPart (length store.now) part index }
     ensures { result ≡ words.word_in store.now part index }
 {
     if part.size < index + 4 {
-        return Loaded::Apart;
+        return None;
     }
     let base = part.base;
     let end = base + part.size;
-    Loaded::Word(le::read32(&store[base..end], index))
+    Some(le::read32(&store[base..end], index))
 }
 
 #[tactic(auto, unfolding(crate::specs::Words::word_at))]
-fn word_of_rom(rom: &[u8], index: usize) -> Loaded
+fn word_of_rom(rom: &[u8], index: usize) -> Option<u32>
     requires { index + 4 < 2 ^ 64 }
     ensures { result ≡ words.word_at rom.now 0 (length rom.now) index }
 {
     if rom.len() < index + 4 {
-        return Loaded::Apart;
+        return None;
     }
-    Loaded::Word(le::read32(rom, index))
+    Some(le::read32(rom, index))
 }
 
 #[tactic(auto, unfolding(crate::specs::Words::word_at))]
-fn word_from(target: Target, addr: u32, rom: &[u8], store: &[u8]) -> Loaded
-    requires { Lies (length store.now) target }
-    ensures { result ≡ words.word_from rom.now store.now addr target }
+fn word_from(at: Target, addr: u32, rom: &[u8], store: &[u8]) -> Option<u32>
+    requires { Lies (length store.now) at }
+    ensures word { result ≡ words.word_from rom.now store.now addr at }
+    ensures rom { AllBytes rom.now }
+    ensures store { AllBytes store.now }
 {
-    match target {
-        Target::Unused => Loaded::Apart,
-        Target::SystemRom => Loaded::Apart,
+    match at {
+        Target::Unused | Target::SystemRom | Target::Sram(_, _) => None,
         Target::GamePakRom => word_of_rom(rom, rom_offset(addr)),
-        Target::Plain(part, index) => word_in(store, part, index),
-        Target::Video(_memory, part, index) => word_in(store, part, index),
-        Target::Sram(_part, _index) => Loaded::Apart,
+        Target::Plain(part, index) | Target::Video(_, part, index) => word_in(store, part, index),
     }
 }
 
@@ -184,66 +177,46 @@ fn low_bytes(size: AccessSize, word: u32) -> u32
 
 // Whether a load finds only zeros there where neither a store nor a ROM is lent: not in the BIOS, which has its latch, and not in
 // SRAM, which has 0xFF without a chip.
-fn reads_zero(target: Target) -> bool
-    ensures { result ≡ words.reads_zero target }
+fn reads_zero(at: Target) -> bool
+    ensures { result ≡ words.reads_zero at }
 {
-    match target {
-        Target::Unused => true,
-        Target::SystemRom => false,
-        Target::GamePakRom => true,
-        Target::Plain(_part, _index) => true,
-        Target::Video(_memory, _part, _index) => true,
-        Target::Sram(_part, _index) => false,
-    }
+    !matches!(at, Target::SystemRom | Target::Sram(_, _))
 }
 
-// By bytes, each decoded by itself, as the Rust does it. Over no store and no ROM, as in a preview, an aligned load is 0 at once.
-#[tactic(auto, using(crate::proofs::Arms::wide_laws), unfolding(model::specs::Load::load8))]
-fn read_apart(
-    size: AccessSize,
-    target: Target,
-    addr: u32,
-    pc: u32,
-    latch: u32,
-    bios: &[u8],
-    rom: &[u8],
-    store: &[u8],
-    lengths: Lengths,
-) -> u32
-    requires { Meets target lengths addr store.now }
-    ensures { result ≡ def.load lengths (bus pc latch bios.now rom.now store.now) size addr }
-{
-    if (addr % size_bytes(size) == 0) & (store.len() == 0) & (rom.len() == 0) & reads_zero(target) {
-        return 0;
-    }
-    match size {
-        AccessSize::Byte => read8(target, addr, pc, latch, bios, rom, store) as u32,
-        AccessSize::Half => read16(target, addr, pc, latch, bios, rom, store, lengths) as u32,
-        AccessSize::Word => read32(target, addr, pc, latch, bios, rom, store, lengths),
-    }
-}
-
-// A load of any size. An aligned one whose word stands in its memory is part of that word, which saves a decoding for each byte.
-#[tactic(auto, using(crate::proofs::Arms::wide_laws))]
-pub fn read(
-    size: AccessSize,
-    target: Target,
-    addr: u32,
-    pc: u32,
-    latch: u32,
-    bios: &[u8],
-    rom: &[u8],
-    store: &[u8],
-    lengths: Lengths,
-) -> u32
-    requires { Meets target lengths addr store.now }
-    ensures { result ≡ def.load lengths (bus pc latch bios.now rom.now store.now) size addr }
-{
-    if addr % size_bytes(size) == 0 {
-        let loaded = word_from(target, addr, rom, store);
-        if let Loaded::Word(word) = loaded {
-            return low_bytes(size, word);
+impl<'a> Bus<'a> {
+    // By bytes, each decoded by itself, as the Rust does it. Over no store and no ROM, as in a preview, an aligned load is 0 at
+    // once.
+    #[tactic(auto, using(crate::proofs::Arms::wide_laws))]
+    fn read_apart(&self, size: AccessSize, at: Target, addr: u32) -> u32
+        requires { at ≡ target self.now.lengths addr }
+        ensures { result ≡ def.load self.now.lengths self.now.sees size addr }
+    {
+        if (addr % size_bytes(size) == 0)
+            & (self.store.len() == 0)
+            & (self.rom.len() == 0)
+            & reads_zero(at)
+        {
+            return 0;
+        }
+        match size {
+            AccessSize::Byte => self.read8(at, addr) as u32,
+            AccessSize::Half => self.read16(at, addr) as u32,
+            AccessSize::Word => self.read32(at, addr),
         }
     }
-    read_apart(size, target, addr, pc, latch, bios, rom, store, lengths)
+
+    // A load of any size. An aligned one whose word stands in its memory is part of that word, which saves a decoding for each
+    // byte.
+    #[tactic(auto, using(crate::proofs::Arms::wide_laws))]
+    pub fn read(&self, size: AccessSize, at: Target, addr: u32) -> u32
+        requires { at ≡ target self.now.lengths addr }
+        ensures { result ≡ def.load self.now.lengths self.now.sees size addr }
+    {
+        if addr % size_bytes(size) == 0 {
+            if let Some(word) = word_from(at, addr, self.rom, self.store) {
+                return low_bytes(size, word);
+            }
+        }
+        self.read_apart(size, at, addr)
+    }
 }
