@@ -3,11 +3,10 @@
 
 ghost use Rattle.std.specs.Prelude.{◌≡◌, map, ◌≤◌, length};
 ghost use Rattle.model.specs.Base.{encoded, field};
-ghost use Rattle.model.specs.Price.{previously};
 ghost use Rattle.model.specs.BoardBytes as def;
 
 use le::{bit, put_pair, put16, put32, put64, read16, read32, read64};
-use model::{BOARD_LENGTH, Board, Clock, Contents, PrefetchBuffer};
+use model::{BOARD_LENGTH, Board, Clock, Contents, PrefetchBuffer, Previous};
 use waits::in_window;
 use waits::waitcnt::WaitCnt;
 
@@ -41,8 +40,10 @@ pub fn load_clock(board: &[u8]) -> Clock
         waitcnt,
         force_next_fetch_n: board[2] == 1,
         prefetch,
-        prev_addr: read32(board, 68),
-        prev_size: board[72] as u32,
+        previous: Previous {
+            addr: read32(board, 68),
+            size: board[72] as u32,
+        },
     }
 }
 
@@ -137,13 +138,13 @@ fn sound_prefetch(p: PrefetchBuffer) -> bool
 
 // The previous data access: with size 0 its address is 0, otherwise a multiple of its size, which is 1, 2 or 4 (W-204).
 #[tactic(auto, unfolding(model::specs::BoardBytes::sound_previous))]
-fn sound_previous(addr: u32, size: u32) -> bool
-    ensures { result ≡ def.sound_previous (previously addr size) }
+fn sound_previous(p: Previous) -> bool
+    ensures { result ≡ def.sound_previous p }
 {
-    if size == 0 {
-        return addr == 0;
+    if p.size == 0 {
+        return p.addr == 0;
     }
-    ((size == 1) | (size == 2) | (size == 4)) & (addr % size == 0)
+    ((p.size == 1) | (p.size == 2) | (p.size == 4)) & (p.addr % p.size == 0)
 }
 
 // Zero bytes are zero, flags are 0 or 1, and WAITCNT bit 13 is clear.
@@ -171,7 +172,7 @@ pub fn is_sound(board: &[u8]) -> bool
     let clock = load_clock(board);
     sound_bytes(board)
         & sound_prefetch(clock.prefetch)
-        & sound_previous(clock.prev_addr, clock.prev_size)
+        & sound_previous(clock.previous)
 }
 
 // ---- writing
@@ -226,12 +227,12 @@ fn put_contents(out: &mut [u8], contents: Contents)
 }
 
 // Bytes 68 to 79: the previous data access, and seven zero bytes.
-fn put_previous(out: &mut [u8], addr: u32, size: u32)
+fn put_previous(out: &mut [u8], p: Previous)
     requires { length out.old ≡ 12 }
-    ensures { out.new ≡ encoded (def.previous_fields (previously addr size)) }
+    ensures { out.new ≡ encoded (def.previous_fields p) }
 {
-    put32(&mut out[0..4], addr);
-    out[4] = (size % 256) as u8;
+    put32(&mut out[0..4], p.addr);
+    out[4] = (p.size % 256) as u8;
     out[5] = 0;
     out[6] = 0;
     out[7] = 0;
@@ -250,11 +251,7 @@ pub fn put_board(board: &mut [u8], clock: Clock, halves: [u16; 8], contents: Con
     put_clock(&mut board[0..20], clock);
     put_halves(&mut board[20..36], halves);
     put_contents(&mut board[36..68], contents);
-    put_previous(
-        &mut board[68..BOARD_LENGTH],
-        clock.prev_addr,
-        clock.prev_size,
-    );
+    put_previous(&mut board[68..BOARD_LENGTH], clock.previous);
 }
 
 // The bytes of a fresh board.

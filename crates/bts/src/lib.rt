@@ -16,6 +16,7 @@ ghost use Rattle.bts.specs.Reported.{reported, reported_bill, reported_preview};
 ghost use Rattle.bts.specs.Explained.{reported_grounds};
 
 use examine::{examine_grounds, examine_tariff};
+use loads::Media;
 use model::{BOARD_LENGTH, Lengths, Verdict};
 use records::sheet;
 
@@ -57,6 +58,7 @@ fn run_accepted(
     let clock = board::load_clock(board);
     let contents = board::load_contents(board);
     let mut halves = board::load_halves(board);
+    let media = Media { bios, rom, lengths };
     let done = run::run_core(
         sheet,
         n,
@@ -64,9 +66,7 @@ fn run_accepted(
         contents,
         &mut halves,
         store,
-        bios,
-        rom,
-        lengths,
+        &media,
         answers,
     );
     let after = done.clock;

@@ -2,10 +2,11 @@
 // written where it belongs. Whatever runs a sheet runs it by this loop, so its contract is about a beginning of the sheet.
 ghost use Rattle.std.specs.Prelude.{◌≡◌};
 ghost use Rattle.model.specs.Waitcnt.{rom_waits_of};
-ghost use Rattle.step.specs.Begun.{media_from, state_from};
+ghost use Rattle.step.specs.Begun.{state_from};
 ghost use Rattle.bts.specs.Beginning.{Runs, Ends};
 
-use model::{ANSWER_LENGTH, Clock, Contents, Lengths};
+use loads::Media;
+use model::{ANSWER_LENGTH, Clock, Contents};
 use records::answer::put_answer;
 use records::sheet::{record_at, rules_of, step_of};
 use step::take_step;
@@ -39,13 +40,11 @@ pub fn run_core(
     contents: Contents,
     halves: &mut [u16; 8],
     store: &mut [u8],
-    bios: &[u8],
-    rom: &[u8],
-    lengths: Lengths,
+    media: &Media<'_>,
     answers: &mut [u8],
 ) -> Done
-    requires { Runs clock lengths n sheet.now store.old answers.old }
-    ensures { Ends (media_from bios.now rom.now lengths)
+    requires { Runs clock media.now.lengths n sheet.now store.old answers.old }
+    ensures { Ends media.now
         (state_from clock halves.old contents store.old)
         sheet.now n answers.old
         result halves.new store.new answers.new }
@@ -58,9 +57,7 @@ pub fn run_core(
     let mut k: usize = 0;
     while k < n {
         let step = step_of(record_at(sheet, version, k));
-        let taken = take_step(
-            current, held, waits, halves, step, store, bios, rom, lengths,
-        );
+        let taken = take_step(current, held, waits, halves, step, store, media);
         let answer = taken.answer;
         let at = ANSWER_LENGTH * k;
         put_answer(&mut answers[at..at + ANSWER_LENGTH], answer);

@@ -11,7 +11,8 @@ use Rattle.model.specs.Wait.{size_bytes_of, access_size_of, aligned, window, is_
 use Rattle.model.specs.Prefetch.{emptied, set_enabled, restart_in, restart, ready, tick1, ticks, arrives}
 use Rattle.model.specs.Prefetch.{occupied, hit, taken, fetched}
 use Rattle.model.specs.Region.{decode}
-use Rattle.model.specs.Price.{Previous, previous, access_of, block_previous, kind_after}
+use Rattle.model.specs.Price.{previous, access_of, block_previous, kind_after}
+use Rattle.model.specs.declared.Previous.{Previous}
 use Rattle.model.specs.Price.{wide, Bus, OnEwram, OnVideo, OnRom, OnSram, OnFast, bus_of}
 use Rattle.model.specs.Timing.{code_size}
 use Rattle.model.specs.Step.{waits_of, set_waitcnt, priced, rom_fetched, fetched_in, code_fetched, code_clock, timed, clock_after}

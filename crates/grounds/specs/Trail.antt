@@ -44,7 +44,7 @@ nowhere = 0x1_0000_0000
 unfoldable pub begins : Clock → Trail
 begins c =
     trail (if nat_eq c.prefetch.count 0 then c.prefetch.next_addr else c.prefetch.head_addr)
-    (if nat_eq c.prev_size 0 then nowhere else further c.prev_size c.prev_addr)
+    (if nat_eq c.previous.size 0 then nowhere else further c.previous.size c.previous.addr)
 
 -- the answers of the first k steps stand
 pub record Reaches (k : ℕ) (answers : List ℕ) : Type 0 where

@@ -108,10 +108,10 @@ fn begun(clock: Clock) -> Trail
     } else {
         buffer.head_addr
     };
-    let next = if clock.prev_size == 0 {
+    let next = if clock.previous.size == 0 {
         NOWHERE
     } else {
-        std::num::wrapping_add_u32(clock.prev_addr, clock.prev_size) as u64
+        std::num::wrapping_add_u32(clock.previous.addr, clock.previous.size) as u64
     };
     Trail { front, next }
 }

@@ -2,8 +2,13 @@
 use Rattle.std.specs.Prelude.{◌≡◌, ℕ, List, length}
 use Rattle.model.specs.Memory.{lengths_sum, target}
 use Rattle.model.specs.Load as def
+use Rattle.model.specs.Step.{Media}
 use Rattle.model.specs.declared.Lengths.{Lengths}
 use Rattle.model.specs.declared.Target.{Target}
+
+-- what a run is lent and does not change
+abbrev pub media : List ℕ → List ℕ → Lengths → Media
+media bios rom l = record { bios = bios; rom = rom; lengths = l }
 
 -- what a load sees, in the order of the fields of the code's bus
 abbrev pub bus : ℕ → ℕ → List ℕ → List ℕ → List ℕ → def.Bus

@@ -9,7 +9,8 @@ ghost use Rattle.model.specs.Memory.{lengths_sum, target};
 ghost use Rattle.model.specs.Load as def;
 ghost use Rattle.model.specs.Wait.{size_bytes_of};
 ghost use Rattle.model.specs.Laws.Places.{InPart, Lies};
-ghost use Rattle.loads.specs.Bus.{bus, Parted, parted};
+ghost use Rattle.model.specs.Step.{Media as Lent};
+ghost use Rattle.loads.specs.Bus.{media, bus, Parted, parted};
 ghost use Rattle.loads.specs.Words as words;
 
 use model::{AccessSize, Lengths, Part, Target};
@@ -18,6 +19,20 @@ use parts::{byte_in, is_sram, target_of};
 use region::mirror::rom_offset;
 use std::marker::Model;
 use waits::size_bytes;
+
+// What a run is lent and doesn't change: the BIOS, the ROM, and the lengths of the seven memories in the store.
+#[derive(Drop)]
+pub struct Media<'a> {
+    pub bios: &'a [u8],
+    pub rom: &'a [u8],
+    pub lengths: Lengths,
+}
+
+impl<'a> Model for Media<'a> {
+    ghost Value = { Lent };
+
+    ghost view = { λ m. media m.bios.now m.rom.now m.lengths };
+}
 
 // What a load sees: of the board the pc and the BIOS latch, and the lent memories.
 #[derive(Drop)]

@@ -8,9 +8,10 @@ use Rattle.model.specs.Base.{blocks}
 use Rattle.model.specs.Waitcnt.{prefetch_enable}
 use Rattle.model.specs.Wait.{in_window}
 use Rattle.model.specs.Prefetch.{new_buffer}
-use Rattle.model.specs.Price.{Previous, previous}
+use Rattle.model.specs.Price.{previously, previous, no_access}
 use Rattle.model.specs.declared.PrefetchBuffer.{PrefetchBuffer}
 use Rattle.model.specs.declared.Clock.{Clock}
+use Rattle.model.specs.declared.Previous.{Previous}
 use Rattle.model.specs.declared.Contents.{Contents}
 use Rattle.model.specs.declared.Board.{Board}
 use Rattle.model.specs.declared.Answer.{Answer}
@@ -43,8 +44,7 @@ clock_of b =
       waitcnt = number 2 b 0;
       force_next_fetch_n = eqb (byte_at b 2) 1;
       prefetch = prefetch_of b (prefetch_enable (number 2 b 0));
-      prev_addr = number 4 b 68;
-      prev_size = byte_at b 72;
+      previous = previously (number 4 b 68) (byte_at b 72);
     }
 
 -- n halfwords from place i on
@@ -110,7 +110,7 @@ abbrev pub fresh_board : Board
 fresh_board =
     record {
       clock =
-          record { waitcnt = 0; force_next_fetch_n = false; prefetch = new_buffer; prev_addr = 0; prev_size = 0 };
+          record { waitcnt = 0; force_next_fetch_n = false; prefetch = new_buffer; previous = no_access };
       halves = replicate 8 0;
       contents =
           record {

@@ -8,7 +8,8 @@ use Rattle.model.specs.Waitcnt.{Waits, rom_waits_of, sram_waits}
 use Rattle.model.specs.Wait.{aligned, window, force_nonseq, rom_half_cycles}
 use Rattle.model.specs.Wait.{sram_byte_cycles, ewram_cycles, video_ram_cycles, fixed_fast_cycles}
 use Rattle.model.specs.Prefetch.{hit}
-use Rattle.model.specs.Price.{Previous, previous, access_of, kind_after, wide}
+use Rattle.model.specs.Price.{previous, access_of, kind_after, wide}
+use Rattle.model.specs.declared.Previous.{Previous}
 use Rattle.model.specs.Price.{Bus, OnEwram, OnVideo, OnRom, OnSram, OnFast, bus_of}
 use Rattle.model.specs.Timing.{internal, code_size}
 use Rattle.model.specs.Step.{clock_after, turns_in}

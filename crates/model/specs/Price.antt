@@ -17,6 +17,7 @@ use Rattle.model.specs.declared.AccessKind.TheVariants.{Nonseq, Seq}
 use Rattle.model.specs.declared.AccessSize.{AccessSize}
 use Rattle.model.specs.declared.AccessSize.TheVariants.{Byte, Half, Word}
 use Rattle.model.specs.declared.Clock.{Clock}
+use Rattle.model.specs.declared.Previous.{Previous}
 
 -- ---- beats
 
@@ -48,16 +49,12 @@ price t bs = sum (map (beat_cycles t) bs)
 -- ---- the kind of a data access (W-204)
 
 -- the previous one: its address as lowered to a multiple of its size, and the size in bytes, 0 for none
-pub record Previous : Type 0 where
-  pub addr : ℕ
-  pub size : ℕ
-
 abbrev pub previously : ℕ → ℕ → Previous
 previously a z = record { addr = a; size = z }
 
 -- that of a clock
 abbrev pub previous : Clock → Previous
-previous c = previously c.prev_addr c.prev_size
+previous c = c.previous
 
 -- an access is the previous one of the next
 abbrev pub access_of : AccessSize → ℕ → Previous

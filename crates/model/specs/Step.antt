@@ -9,7 +9,8 @@ use Rattle.model.specs.Base.{bit, sum, further}
 use Rattle.model.specs.Waitcnt.{Waits, written, prefetch_enable, rom_waits_of}
 use Rattle.model.specs.Wait.{window}
 use Rattle.model.specs.Prefetch.{set_enabled, restart, ticks, filled, hit, fetched}
-use Rattle.model.specs.Price.{Previous, previous, access_of, no_access, data_cycles, block_cycles_of, block_previous}
+use Rattle.model.specs.Price.{previous, access_of, no_access, data_cycles, block_cycles_of, block_previous}
+use Rattle.model.specs.declared.Previous.{Previous}
 use Rattle.model.specs.Timing.{price_insn}
 use Rattle.model.specs.Memory.{target}
 use Rattle.model.specs.Load.{Bus, load, load16, last_word_of}
@@ -49,8 +50,7 @@ with_prefetch c p =
       waitcnt = c.waitcnt;
       force_next_fetch_n = c.force_next_fetch_n;
       prefetch = p;
-      prev_addr = c.prev_addr;
-      prev_size = c.prev_size;
+      previous = c.previous;
     }
 
 abbrev pub with_previous : Clock → Previous → Clock
@@ -59,8 +59,7 @@ with_previous c p =
       waitcnt = c.waitcnt;
       force_next_fetch_n = c.force_next_fetch_n;
       prefetch = c.prefetch;
-      prev_addr = p.addr;
-      prev_size = p.size;
+      previous = p;
     }
 
 -- every data access is the previous one of the next; what fetches opcodes or sets the waits clears it (W-204)
@@ -77,8 +76,7 @@ set_waitcnt c v =
       waitcnt = written c.waitcnt v;
       force_next_fetch_n = c.force_next_fetch_n;
       prefetch = set_enabled (prefetch_enable (written c.waitcnt v)) c.prefetch;
-      prev_addr = c.prev_addr;
-      prev_size = c.prev_size;
+      previous = c.previous;
     }
 
 -- an instruction is priced with the board's switch and force flag, by the test of its sheet's version
@@ -132,8 +130,7 @@ code_clock c v isa a op jump =
       waitcnt = c.waitcnt;
       force_next_fetch_n = (priced c v isa a op jump).latch_disable_bug;
       prefetch = code_fetched c isa a;
-      prev_addr = no_access.addr;
-      prev_size = no_access.size;
+      previous = no_access;
     }
 
 -- ---- a step in time

@@ -5,6 +5,7 @@
 
 ghost use Rattle.std.specs.Prelude.{◌≡◌};
 ghost use Rattle.model.specs.Memory.{no_lengths};
+ghost use Rattle.model.specs.Price.{no_access};
 ghost use Rattle.model.specs.Prefetch.{new_buffer};
 ghost use Rattle.model.specs.BoardBytes.{fresh_board};
 
@@ -222,16 +223,30 @@ pub enum Step {
     BlockWrite(u32, u32),
 }
 
+// The previous data access (W-204), as a board has it: its address as lowered to a multiple of its size, and the size in bytes, 0
+// for none.
+#[derive(Clone, Copy)]
+pub struct Previous {
+    pub addr: u32,
+    pub size: u32,
+}
+
+impl Previous {
+    // That of a fresh board, and after a step that clears it.
+    pub fn none() -> Previous
+        ensures { result ≡ no_access }
+    {
+        Previous { addr: 0, size: 0 }
+    }
+}
+
 // The part of a board on which cycles, counts, the force flag and the hits in the buffer depend, and nothing else of it.
 #[derive(Clone, Copy)]
 pub struct Clock {
     pub waitcnt: u16,
     pub force_next_fetch_n: bool,
     pub prefetch: PrefetchBuffer,
-    // The previous data access (W-204): its address as lowered to a multiple of its size, and the size in bytes, 0 for none. They
-    // are two fields, not a struct of their own or an enum: the run is quicker by it.
-    pub prev_addr: u32,
-    pub prev_size: u32,
+    pub previous: Previous,
 }
 
 // What loads and stores see or change of a board.
@@ -262,8 +277,7 @@ impl Board {
             waitcnt: 0,
             force_next_fetch_n: false,
             prefetch,
-            prev_addr: 0,
-            prev_size: 0,
+            previous: Previous::none(),
         };
         let halves = [0u16; 8];
         let contents = Contents {

@@ -6,7 +6,8 @@ use Rattle.std.proofs.Math.Path.{ap₂}
 use Rattle.model.specs.Region.{decode}
 use Rattle.model.specs.Waitcnt.{Waits, rom_waits_of, sram_waits}
 use Rattle.model.specs.Wait.{size_bytes_of, aligned, kind_at}
-use Rattle.model.specs.Price.{Previous, price, previously, kind_after, data_beats_in, data_beats, data_cycles}
+use Rattle.model.specs.Price.{price, previously, kind_after, data_beats_in, data_beats, data_cycles}
+use Rattle.model.specs.declared.Previous.{Previous}
 use Rattle.model.specs.Step.{with_previous, accessed}
 use Rattle.model.specs.Laws.Previous.{SoundPrevious}
 use Rattle.model.proofs.Laws.Near.{aligned_region}

@@ -3,7 +3,7 @@
 use Rattle.std.specs.Prelude.{◌≡◌, ℕ, List, [], length}
 use Rattle.model.specs.Region.{decode}
 use Rattle.model.specs.Waitcnt.{Waits, rom_waits_of}
-use Rattle.model.specs.Price.{Previous}
+use Rattle.model.specs.declared.Previous.{Previous}
 use Rattle.model.specs.Memory.{lengths_sum}
 use Rattle.model.specs.Store.{landed}
 use Rattle.model.specs.Step.{Media, State, Timed, timed, Changed, changed, hits_of, stepped, answer, board_with}
@@ -61,8 +61,8 @@ pub record Begins (m : Media) (s : State) (x : Step) (r : Begun) (store : List �
 abbrev pub bare : Clock → List ℕ → Contents → Step → Begun
 bare c h d x = begun (media_from [] [] no_lengths) (state_from c h d []) x
 
-abbrev pub Reads : Clock → Contents → AccessSize → ℕ → Lengths → List ℕ → List ℕ → List ℕ → Begun → Type 0
-Reads c d z a l bios rom store r = r ≡ begun (media_from bios rom l) (state_from c [] d store) (Read z a)
+abbrev pub Reads : Clock → Contents → AccessSize → ℕ → Media → List ℕ → Begun → Type 0
+Reads c d z a m store r = r ≡ begun m (state_from c [] d store) (Read z a)
 
 abbrev pub Writes : Clock → Contents → AccessSize → ℕ → ℕ → Lengths → List ℕ → Begun → List ℕ → Type 0
 Writes c d z a v l before r after = Begins (media_from [] [] l) (state_from c [] d before) (Write z a v) r after

@@ -5,7 +5,8 @@ use Rattle.std.proofs.Common.{sym, ◌∙◌, append_assoc, append-nil, arith, a
 use Rattle.std.proofs.Math.Path.{ap}
 use Rattle.model.specs.Base.{further}
 use Rattle.model.specs.Wait.{aligned}
-use Rattle.model.specs.Price.{Previous, previously, previous, access_of, data_cycles, block_cycles_of, block_previous}
+use Rattle.model.specs.Price.{previously, previous, access_of, data_cycles, block_cycles_of, block_previous}
+use Rattle.model.specs.declared.Previous.{Previous}
 use Rattle.model.specs.Memory.{lengths_sum, target}
 use Rattle.model.specs.Load.{Bus, load, last_word_of}
 use Rattle.model.specs.Store.{Put, puts, puts_at, landed, mode_of, video_count}

@@ -5,6 +5,7 @@ use Rattle.model.specs.Base.{further}
 use Rattle.model.specs.Waitcnt.{Waits, rom_waits_of}
 use Rattle.model.specs.Wait.{window}
 use Rattle.model.specs.Prefetch.{restart, occupied, hit, taken, fetched}
+use Rattle.model.specs.Price.{no_access}
 use Rattle.model.specs.Timing.{price_insn}
 use Rattle.model.specs.Step.{with_prefetch, cleared, timing_input, rom_fetched, rom_hits, fetched_in}
 use Rattle.model.specs.Step.{hits_in, code_fetched, code_hits, code_clock, half_at}
@@ -107,8 +108,7 @@ instructing c d price fetch =
             waitcnt = c.waitcnt;
             force_next_fetch_n = price.latch_disable_bug;
             prefetch = fetch.prefetch;
-            prev_addr = 0;
-            prev_size = 0;
+            previous = no_access;
           };
       idle = price.cart_idle;
       cycles = price.total;

@@ -18,11 +18,13 @@ ghost use Rattle.model.specs.Sheet.{max_words};
 ghost use Rattle.model.specs.Laws.Previous.{SoundPrevious};
 ghost use Rattle.step.specs.Block.{BlockRunnable, Loadable, Clears};
 ghost use Rattle.step.specs.Fetch.{fetch_of, code_fetch};
-ghost use Rattle.loads.specs.Bus.{bus};
+ghost use Rattle.loads.specs.Bus as loads;
+ghost use Rattle.model.specs.Memory.{lengths_sum};
 
+use loads::{Bus, Media};
 use model::{
-    AccessSize, Answer, Clock, Contents, IsaState, Lengths, PrefetchBuffer, Region, Step, Target,
-    TimingInput, Version, VideoMemory, Windowed,
+    AccessSize, Answer, Clock, Contents, IsaState, Lengths, PrefetchBuffer, Previous, Region, Step,
+    Target, TimingInput, Version, VideoMemory, Windowed,
 };
 use prefetch::Half;
 use stores::saturating_add;
@@ -57,27 +59,18 @@ fn unanswered(clock: Clock, contents: Contents, cycles: u32, idle: u32) -> Begun
 #[tactic(auto, using(crate::proofs::Laws::access_laws))]
 fn data_price(
     waitcnt: u16,
-    prev_addr: u32,
-    prev_size: u32,
+    previous: Previous,
     waits: [[u8; 2]; 3],
     size: AccessSize,
     addr: u32,
     region: Region,
 ) -> u32
-    requires { Priceable waitcnt (previously prev_addr prev_size) waits addr region }
+    requires { Priceable waitcnt previous waits addr region }
     ensures { result ≡ price (rom_waits_of waitcnt)
-        (data_beats_in (sram_waits waitcnt) size (kind_at addr (kind_after (previously prev_addr prev_size) addr)) region) }
+        (data_beats_in (sram_waits waitcnt) size (kind_at addr (kind_after previous addr)) region) }
 {
     let register = WaitCnt { raw: waitcnt };
-    timing::data_cycles(
-        waits,
-        register.sram_waits(),
-        size,
-        addr,
-        region,
-        prev_addr,
-        prev_size,
-    )
+    timing::data_cycles(waits, register.sram_waits(), size, addr, region, previous)
 }
 
 // The clock after a data access at a lowered address, which is the previous one from now on (W-204). READ and WRITE price it and
@@ -86,12 +79,27 @@ fn accessed(clock: Clock, size: AccessSize, addr: u32) -> Clock
     ensures { result ≡ machine.with_previous clock (previously addr (size_bytes_of size)) }
 {
     let prefetch = clock.prefetch;
+    let bytes = waits::shifted_bytes(size);
     Clock {
         waitcnt: clock.waitcnt,
         force_next_fetch_n: clock.force_next_fetch_n,
         prefetch,
-        prev_addr: addr,
-        prev_size: waits::shifted_bytes(size),
+        previous: Previous { addr, size: bytes },
+    }
+}
+
+// What the loads of a step see.
+fn bus<'a>(contents: Contents, store: &'a [u8], media: &'a Media<'a>) -> Bus<'a>
+    requires { lengths_sum media.now.lengths ≡ length store.now }
+    ensures { result ≡ loads.parted (loads.bus contents.cpu_pc contents.last_bios_opcode media.now.bios media.now.rom store.now) media.now.lengths }
+{
+    Bus {
+        pc: contents.cpu_pc,
+        latch: contents.last_bios_opcode,
+        bios: media.bios,
+        rom: media.rom,
+        store,
+        lengths: media.lengths,
     }
 }
 
@@ -104,28 +112,16 @@ fn read_step(
     size: AccessSize,
     addr: u32,
     store: &[u8],
-    bios: &[u8],
-    rom: &[u8],
-    lengths: Lengths,
+    media: &Media<'_>,
 ) -> Begun
-    requires { Runnable clock waits lengths store.now }
-    ensures { Reads clock contents size addr lengths bios.now rom.now store.now result }
+    requires { Runnable clock waits media.now.lengths store.now }
+    ensures { Reads clock contents size addr media.now store.now result }
 {
     let region = region::decode(addr);
-    let target = parts::target_in(region, addr, lengths);
-    let pc = contents.cpu_pc;
-    let latch = contents.last_bios_opcode;
-    let value = loads::read(size, target, addr, pc, latch, bios, rom, store, lengths);
+    let target = parts::target_in(region, addr, media.lengths);
+    let value = bus(contents, store, media).read(size, target, addr);
     let at = waits::aligned(size, addr);
-    let price = data_price(
-        clock.waitcnt,
-        clock.prev_addr,
-        clock.prev_size,
-        waits,
-        size,
-        at,
-        region,
-    );
+    let price = data_price(clock.waitcnt, clock.previous, waits, size, at, region);
     let after = accessed(clock, size, at);
     Begun {
         clock: after,
@@ -195,15 +191,7 @@ fn write_step(
 {
     let region = region::decode(addr);
     let at = waits::aligned(size, addr);
-    let price = data_price(
-        clock.waitcnt,
-        clock.prev_addr,
-        clock.prev_size,
-        waits,
-        size,
-        at,
-        region,
-    );
+    let price = data_price(clock.waitcnt, clock.previous, waits, size, at, region);
     let target = parts::target_in(region, addr, lengths);
     let stored = stores::write(size, target, addr, value, store, lengths);
     let counted = count_store(contents, target, stored.halfwords);
@@ -223,13 +211,12 @@ fn write_step(
 // The cycles of a block: each word is priced by itself, after the access before it. The waits are built here: an array that is
 // handed to a function which stays one would stand in memory throughout the run.
 #[tactic(auto, using(crate::proofs::Laws::block_laws), unfolding(model::specs::Price::data_beats))]
-fn block_cycles(waitcnt: u16, prev_addr: u32, prev_size: u32, addr: u32, words: u32) -> u32
-    requires { SoundPrevious (previously prev_addr prev_size) × (words ≤ max_words) }
-    ensures { result ≡ block_cycles_of waitcnt (previously prev_addr prev_size) addr words }
+fn block_cycles(waitcnt: u16, previous: Previous, addr: u32, words: u32) -> u32
+    requires { SoundPrevious previous × (words ≤ max_words) }
+    ensures { result ≡ block_cycles_of waitcnt previous addr words }
 {
     let waits = waits::rom_waits(WaitCnt { raw: waitcnt });
-    let mut from = prev_addr;
-    let mut size = prev_size;
+    let mut from = previous;
     let mut cycles: u32 = 0;
     let mut at = addr;
     let mut left = words;
@@ -238,14 +225,12 @@ fn block_cycles(waitcnt: u16, prev_addr: u32, prev_size: u32, addr: u32, words: 
         let price = data_price(
             waitcnt,
             from,
-            size,
             waits,
             AccessSize::Word,
             low,
             region::decode(at),
         );
-        from = low;
-        size = 4;
+        from = Previous { addr: low, size: 4 };
         cycles += price;
         at = std::num::wrapping_add_u32(at, 4);
         left -= 1;
@@ -276,23 +261,13 @@ fn block_clock(clock: Clock, addr: u32, words: u32) -> Clock
 
 // The last word of a block: a load changes nothing, so that the others need not be loaded.
 #[tactic(auto, using(crate::proofs::Laws::block_laws))]
-fn last_word(
-    pc: u32,
-    latch: u32,
-    addr: u32,
-    words: u32,
-    store: &[u8],
-    bios: &[u8],
-    rom: &[u8],
-    lengths: Lengths,
-) -> u32
-    requires { Loadable lengths words store.now }
-    ensures { result ≡ last_word_of lengths (bus pc latch bios.now rom.now store.now)
-        0 addr words }
+fn last_word(bus: &Bus<'_>, addr: u32, words: u32) -> u32
+    requires { (1 ≤ words) × (words ≤ max_words) }
+    ensures { result ≡ last_word_of bus.now.lengths bus.now.sees 0 addr words }
 {
     let last = last_of(addr, words);
-    let target = parts::target_of(last, lengths);
-    loads::read32(target, last, pc, latch, bios, rom, store, lengths)
+    let target = parts::target_of(last, bus.lengths);
+    bus.read32(target, last)
 }
 
 // BLOCK READ: `read32`, once a word; the last word is the answer.
@@ -302,18 +277,13 @@ fn block_read_step(
     addr: u32,
     words: u32,
     store: &[u8],
-    bios: &[u8],
-    rom: &[u8],
-    lengths: Lengths,
+    media: &Media<'_>,
 ) -> Begun
-    requires { BlockRunnable clock lengths store.now × Short (kind.BlockRead addr words) }
-    ensures { result ≡ def.begun (def.media_from bios.now rom.now lengths)
-        (def.state_from clock [] contents store.now) (kind.BlockRead addr words) }
+    requires { BlockRunnable clock media.now.lengths store.now × Short (kind.BlockRead addr words) }
+    ensures { result ≡ def.begun media.now (def.state_from clock [] contents store.now) (kind.BlockRead addr words) }
 {
-    let cycles = block_cycles(clock.waitcnt, clock.prev_addr, clock.prev_size, addr, words);
-    let pc = contents.cpu_pc;
-    let latch = contents.last_bios_opcode;
-    let value = last_word(pc, latch, addr, words, store, bios, rom, lengths);
+    let cycles = block_cycles(clock.waitcnt, clock.previous, addr, words);
+    let value = last_word(&bus(contents, store, media), addr, words);
     let after = block_clock(clock, addr, words);
     Begun {
         clock: after,
@@ -378,7 +348,7 @@ fn block_write_step(
     ensures { def.Begins (def.media_from [] [] lengths) (def.state_from clock [] contents store.old)
         (kind.BlockWrite addr words) result store.new }
 {
-    let cycles = block_cycles(clock.waitcnt, clock.prev_addr, clock.prev_size, addr, words);
+    let cycles = block_cycles(clock.waitcnt, clock.previous, addr, words);
     let zeroed = clear_words(contents, addr, words, store, lengths);
     let after = block_clock(clock, addr, words);
     let left = zeroed.contents;
@@ -405,8 +375,7 @@ fn set_waitcnt(clock: Clock, value: u16) -> Clock
         waitcnt: register.raw,
         force_next_fetch_n: clock.force_next_fetch_n,
         prefetch,
-        prev_addr: clock.prev_addr,
-        prev_size: clock.prev_size,
+        previous: clock.previous,
     }
 }
 
@@ -417,8 +386,7 @@ fn with_prefetch(clock: Clock, prefetch: PrefetchBuffer) -> Clock
         waitcnt: clock.waitcnt,
         force_next_fetch_n: clock.force_next_fetch_n,
         prefetch,
-        prev_addr: clock.prev_addr,
-        prev_size: clock.prev_size,
+        previous: clock.previous,
     }
 }
 
@@ -431,8 +399,7 @@ fn cleared(clock: Clock) -> Clock
         waitcnt: clock.waitcnt,
         force_next_fetch_n: clock.force_next_fetch_n,
         prefetch,
-        prev_addr: 0,
-        prev_size: 0,
+        previous: Previous::none(),
     }
 }
 
@@ -557,13 +524,12 @@ fn instruction_step(
     let price = timing::price_insn(input, waits, p);
     let fetch = fetch_code(p, isa, addr, waits);
     let prefetch = fetch.prefetch;
-    let none: u32 = 0;
+    let none = Previous::none();
     let after = Clock {
         waitcnt: clock.waitcnt,
         force_next_fetch_n: price.latch_disable_bug,
         prefetch,
-        prev_addr: none,
-        prev_size: none,
+        previous: none,
     };
     Begun {
         clock: after,
@@ -609,21 +575,24 @@ fn begin(
     waits: [[u8; 2]; 3],
     step: Step,
     store: &mut [u8],
-    bios: &[u8],
-    rom: &[u8],
-    lengths: Lengths,
+    media: &Media<'_>,
 ) -> Begun
-    requires { Runnable clock waits lengths store.old × Short step }
-    ensures { def.Begins (def.media_from bios.now rom.now lengths)
+    requires { Runnable clock waits media.now.lengths store.old × Short step }
+    ensures { def.Begins media.now
         (def.state_from clock halves.now contents store.old)
         step result store.new }
 {
     match step {
-        Step::Read(size, addr) => read_step(
-            clock, contents, waits, size, addr, store, bios, rom, lengths,
-        ),
+        Step::Read(size, addr) => read_step(clock, contents, waits, size, addr, store, media),
         Step::Write(size, addr, value) => write_step(
-            clock, contents, waits, size, addr, value, store, lengths,
+            clock,
+            contents,
+            waits,
+            size,
+            addr,
+            value,
+            store,
+            media.lengths,
         ),
         Step::Waitcnt(value) => unanswered(cleared(set_waitcnt(clock, value)), contents, 0, 0),
         Step::Idle(cycles) => unanswered(clock, contents, cycles, cycles),
@@ -634,11 +603,14 @@ fn begin(
         ),
         Step::Pc(addr) => unanswered(clock, with_pc(contents, addr), 0, 0),
         Step::Latch(value) => unanswered(clock, with_latch(contents, value), 0, 0),
-        Step::BlockRead(addr, words) => block_read_step(
-            clock, contents, addr, words, store, bios, rom, lengths,
-        ),
+        Step::BlockRead(addr, words) => block_read_step(clock, contents, addr, words, store, media),
         Step::BlockWrite(addr, words) => block_write_step(
-            clock, contents, addr, words, store, lengths,
+            clock,
+            contents,
+            addr,
+            words,
+            store,
+            media.lengths,
         ),
     }
 }
@@ -659,21 +631,17 @@ pub fn take_step(
     halves: &mut [u16; 8],
     step: Step,
     store: &mut [u8],
-    bios: &[u8],
-    rom: &[u8],
-    lengths: Lengths,
+    media: &Media<'_>,
 ) -> Stepped
-    requires { Runnable clock waits lengths store.old × Short step }
-    ensures { def.Steps (def.media_from bios.now rom.now lengths)
+    requires { Runnable clock waits media.now.lengths store.old × Short step }
+    ensures { def.Steps media.now
         (def.state_from clock halves.old contents store.old)
         step result halves.new store.new }
 {
-    let begun = begin(
-        clock, contents, halves, waits, step, store, bios, rom, lengths,
-    );
+    let begun = begin(clock, contents, halves, waits, step, store, media);
     let before = begun.clock;
     let buffer = before.prefetch;
-    let prefetch = prefetch::tick_idle(buffer, halves, begun.idle, waits, rom);
+    let prefetch = prefetch::tick_idle(buffer, halves, begun.idle, waits, media.rom);
     let after = with_prefetch(before, prefetch);
     let contents = begun.contents;
     let answer = Answer {

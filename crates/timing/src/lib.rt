@@ -5,7 +5,7 @@
 ghost use Rattle.std.specs.Prelude.{◌≡◌};
 ghost use Rattle.model.specs.Region.{decode};
 ghost use Rattle.model.specs.Wait.{window as windowOf, kind_at};
-ghost use Rattle.model.specs.Price.{beat_cycles, price, previously, kind_after, rom_access, data_beats_in};
+ghost use Rattle.model.specs.Price.{beat_cycles, price, kind_after, rom_access, data_beats_in};
 ghost use Rattle.model.specs.Timing as def;
 ghost use Rattle.model.specs.Laws.Bounds.{SmallWaits};
 ghost use Rattle.model.specs.Laws.Window.{InRom};
@@ -14,7 +14,7 @@ ghost use Rattle.timing.specs.Fetch.{PlainPrice, fetch_price};
 
 use disable_bug::DisableBugInput;
 use model::{
-    AccessKind, AccessSize, InsnCycles, IsaState, PrefetchBuffer, Region, RomWindow, TimingInput,
+    AccessKind, AccessSize, InsnCycles, IsaState, PrefetchBuffer, Previous, Region, RomWindow, TimingInput,
     Version, Windowed,
 };
 
@@ -148,14 +148,14 @@ pub fn price_insn(input: TimingInput, waits: [[u8; 2]; 3], prefetch: PrefetchBuf
 // The kind of a data access to ROM at a lowered address, from the previous one (W-204). What goes on where that ended, and begins
 // no block, lies in one block with it: the regions are the same, and need not be decoded to be compared.
 #[tactic(auto, using(crate::proofs::Laws::kind_in_rom), unfolding(model::specs::Price::kind_after))]
-fn rom_kind_after(prev_addr: u32, prev_size: u32, addr: u32) -> AccessKind
-    requires { SoundPrevious (previously prev_addr prev_size) × InRom addr }
-    ensures { result ≡ kind_after (previously prev_addr prev_size) addr }
+fn rom_kind_after(previous: Previous, addr: u32) -> AccessKind
+    requires { SoundPrevious previous × InRom addr }
+    ensures { result ≡ kind_after previous addr }
 {
-    if prev_size == 0 {
+    if previous.size == 0 {
         return AccessKind::Nonseq;
     }
-    waits::classify_access(prev_addr, waits::access_size(prev_size), addr, true)
+    waits::classify_access(previous.addr, waits::access_size(previous.size), addr, true)
 }
 
 // ROM data at a lowered address: a byte or a half is one beat, a word that and S.
@@ -164,14 +164,13 @@ fn rom_cost(
     window: RomWindow,
     size: AccessSize,
     addr: u32,
-    prev_addr: u32,
-    prev_size: u32,
+    previous: Previous,
 ) -> u32
-    requires { SmallWaits waits × (SoundPrevious (previously prev_addr prev_size) × InRom addr) }
+    requires { SmallWaits waits × (SoundPrevious previous × InRom addr) }
     ensures { result ≡ price waits
-        (rom_access size (kind_at addr (kind_after (previously prev_addr prev_size) addr)) window) }
+        (rom_access size (kind_at addr (kind_after previous addr)) window) }
 {
-    let kind = rom_kind_after(prev_addr, prev_size, addr);
+    let kind = rom_kind_after(previous, addr);
     let first = waits::rom_half_cycles_at(waits, addr, window, kind);
     match size {
         AccessSize::Byte => first,
@@ -188,12 +187,11 @@ pub fn data_cycles(
     size: AccessSize,
     addr: u32,
     region: Region,
-    prev_addr: u32,
-    prev_size: u32,
+    previous: Previous,
 ) -> u32
-    requires { SmallWaits waits × (SoundPrevious (previously prev_addr prev_size) × (region ≡ decode addr)) }
+    requires { SmallWaits waits × (SoundPrevious previous × (region ≡ decode addr)) }
     ensures { result ≡ price waits
-        (data_beats_in sram_waits size (kind_at addr (kind_after (previously prev_addr prev_size) addr)) region) }
+        (data_beats_in sram_waits size (kind_at addr (kind_after previous addr)) region) }
 {
     match region {
         Region::Bios => waits::fixed_fast_cycles(),
@@ -204,9 +202,9 @@ pub fn data_cycles(
         Region::Palette => waits::video_ram_cycles(size),
         Region::Vram => waits::video_ram_cycles(size),
         Region::Oam => waits::fixed_fast_cycles(),
-        Region::GamePakRomWs0 => rom_cost(waits, RomWindow::Ws0, size, addr, prev_addr, prev_size),
-        Region::GamePakRomWs1 => rom_cost(waits, RomWindow::Ws1, size, addr, prev_addr, prev_size),
-        Region::GamePakRomWs2 => rom_cost(waits, RomWindow::Ws2, size, addr, prev_addr, prev_size),
+        Region::GamePakRomWs0 => rom_cost(waits, RomWindow::Ws0, size, addr, previous),
+        Region::GamePakRomWs1 => rom_cost(waits, RomWindow::Ws1, size, addr, previous),
+        Region::GamePakRomWs2 => rom_cost(waits, RomWindow::Ws2, size, addr, previous),
         Region::GamePakSram => waits::sram_byte_cycles(sram_waits),
         Region::UnusedHigh => waits::fixed_fast_cycles(),
     }

@@ -7,7 +7,8 @@ use Rattle.model.specs.Waitcnt.{Waits, n_waits, s_waits, rom_waits_of}
 use Rattle.model.specs.Wait.{nonseq_if, rom_half_cycles, ewram_cycles, window}
 use Rattle.model.specs.Prefetch.{hit, fetched}
 use Rattle.model.specs.Price.{Beat, BufferBeat, RomBeat, EwramBeat, SramBeat, VideoBeat, FastBeat}
-use Rattle.model.specs.Price.{beat_cycles, price, Previous, previous, access_of, first_kind_of, wide}
+use Rattle.model.specs.Price.{beat_cycles, price, previous, access_of, first_kind_of, wide}
+use Rattle.model.specs.declared.Previous.{Previous}
 use Rattle.model.specs.Price.{data_beats_in, data_beats, data_cycles, block_cycles_of}
 use Rattle.model.specs.Timing.{internal, code_size, half_beat, plain_beat, fetch_beats_in}
 use Rattle.model.specs.Timing.{fetch_beats, idle_in, cart_idle_of, price_insn}

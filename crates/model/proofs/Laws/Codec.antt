@@ -267,8 +267,8 @@ module _ (b : Board) (eight : length b.halves ≡ 8) where
   back : (n i v : ℕ) → number n tail i ≡ number n (bytes n v ++ []) 0 → v < 256 ^ n → number n (board_bytes b) (36 + i) ≡ v
   back n i v e h = past_halves n i ∙ e ∙ number_fits n v [] h
 
-  prev_size_back : b.clock.prev_size < 256 → byte_at (board_bytes b) 72 ≡ b.clock.prev_size
-  prev_size_back h = one 72 ∙ back 1 36 b.clock.prev_size refl h
+  prev_size_back : b.clock.previous.size < 256 → byte_at (board_bytes b) 72 ≡ b.clock.previous.size
+  prev_size_back h = one 72 ∙ back 1 36 b.clock.previous.size refl h
     where
       one : (i : ℕ) → byte_at (board_bytes b) i ≡ number 1 (board_bytes b) i
       one i = omega arith
@@ -296,8 +296,11 @@ clock_back b eight k x =
             filling = flag_back b.clock.prefetch.filling x;
             first_beat = flag_back b.clock.prefetch.first_beat x;
           };
-      prev_addr = back b eight 4 32 b.clock.prev_addr refl k.prev_addr_fits x;
-      prev_size = prev_size_back b eight k.prev_size_fits x;
+      previous =
+          record {
+            addr = back b eight 4 32 b.clock.previous.addr refl k.prev_addr_fits x;
+            size = prev_size_back b eight k.prev_size_fits x;
+          };
     }
   where
     waitcnt_back : number 2 (bytes 2 b.clock.waitcnt) 0 ≡ b.clock.waitcnt

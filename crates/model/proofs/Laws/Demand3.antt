@@ -150,8 +150,11 @@ module _ (b c : List ℕ) (h : AlikeBoards b c) where
               filling = eqb (low 5 (omega arith) x) 1;
               first_beat = eqb (low 6 (omega arith) x) 1;
             };
-        prev_addr = same_number 4 68 b c (λ j u v. h j (omega arith) (omega arith) (omega arith)) x;
-        prev_size = h 72 (omega arith) (omega arith) (omega arith) x;
+        previous =
+            record {
+              addr = same_number 4 68 b c (λ j u v. h j (omega arith) (omega arith) (omega arith)) x;
+              size = h 72 (omega arith) (omega arith) (omega arith) x;
+            };
       }
 
 -- ---- the answers, as bytes

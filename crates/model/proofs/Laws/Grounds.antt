@@ -11,7 +11,8 @@ use Rattle.model.specs.Waitcnt.{Waits, rom_waits_of, sram_waits}
 use Rattle.model.specs.Wait.{aligned, nonseq_if, window, force_nonseq, kind_at, rom_half_cycles}
 use Rattle.model.specs.Prefetch.{hit}
 use Rattle.model.specs.Price.{Beat, RomBeat, EwramBeat, VideoBeat, beat_cycles, price}
-use Rattle.model.specs.Price.{Previous, previous, access_of, kind_after, wide}
+use Rattle.model.specs.Price.{previous, access_of, kind_after, wide}
+use Rattle.model.specs.declared.Previous.{Previous}
 use Rattle.model.specs.Price.{Bus, OnEwram, OnVideo, OnRom, OnSram, OnFast, bus_of}
 use Rattle.model.specs.Price.{data_beats_on, data_beats, data_cycles, block_cycles_of}
 use Rattle.model.specs.Timing.{internal, code_size, half_beat, plain_beat, fetch_beats_in, fetch_beats, price_insn}

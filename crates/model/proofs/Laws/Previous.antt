@@ -9,7 +9,8 @@ use Rattle.model.specs.Region.{page, decode, region_number, same_region, is_game
 use Rattle.model.specs.Waitcnt.{rom_waits_of, sram_waits}
 use Rattle.model.specs.Wait.{size_bytes_of, access_size_of, aligned, window_at, window, in_window}
 use Rattle.model.specs.Wait.{force_nonseq, kind_at, classify_access, rom_half_cycles}
-use Rattle.model.specs.Price.{price, Previous, previously, previous, access_of, no_access, kind_after, first_kind_of}
+use Rattle.model.specs.Price.{price, previously, previous, access_of, no_access, kind_after, first_kind_of}
+use Rattle.model.specs.declared.Previous.{Previous}
 use Rattle.model.specs.Price.{rom_access, data_beats_in, data_beats, data_cycles, block_previous}
 use Rattle.model.specs.Step.{waits_of, set_waitcnt, code_clock, clock_after}
 use Rattle.model.specs.BoardBytes.{sound_previous}

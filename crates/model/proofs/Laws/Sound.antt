@@ -12,7 +12,8 @@ use Rattle.model.specs.Waitcnt.{Waits, written, prefetch_enable}
 use Rattle.model.specs.Wait.{window, in_window, kind_at, nonseq_if, rom_half_cycles}
 use Rattle.model.specs.Prefetch.{capacity, emptied, set_enabled, restart_in, restart, beat_in, start_beat}
 use Rattle.model.specs.Prefetch.{arrived, ended, advance, ready, tick1, ticks, occupied, hit, taken, fetched}
-use Rattle.model.specs.Price.{Previous, previous as previousOf, no_access}
+use Rattle.model.specs.Price.{previous as previousOf, no_access}
+use Rattle.model.specs.declared.Previous.{Previous}
 use Rattle.model.specs.Step.{waits_of, with_prefetch, with_previous, set_waitcnt, rom_fetched, fetched_in, code_fetched}
 use Rattle.model.specs.BoardBytes.{fresh_board}
 use Rattle.model.specs.Step.{code_clock, Timed, timed, idled, clock_after}

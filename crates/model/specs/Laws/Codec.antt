@@ -26,8 +26,8 @@ pub record ClockFits (c : Clock) : Type 0 where
   pub next_addr_fits : c.prefetch.next_addr < 2 ^ 32
   pub head_addr_fits : c.prefetch.head_addr < 2 ^ 32
   pub switch : c.prefetch.enabled ≡ prefetch_enable c.waitcnt
-  pub prev_addr_fits : c.prev_addr < 2 ^ 32
-  pub prev_size_fits : c.prev_size < 256
+  pub prev_addr_fits : c.previous.addr < 2 ^ 32
+  pub prev_size_fits : c.previous.size < 256
 
 pub record HalvesFit (h : List ℕ) : Type 0 where
   pub eight : length h ≡ 8

@@ -4,7 +4,8 @@
 use Rattle.std.specs.Prelude.{◌≡◌, ◌≢◌, true, List, [], ◌∷◌, ℕ, ◌%◌, ◌^◌, ◌<◌}
 use Rattle.model.specs.Base.{further}
 use Rattle.model.specs.Wait.{size_bytes_of, access_size_of, aligned}
-use Rattle.model.specs.Price.{Previous, access_of, no_access}
+use Rattle.model.specs.Price.{access_of, no_access}
+use Rattle.model.specs.declared.Previous.{Previous}
 use Rattle.model.specs.Price.{block_previous}
 use Rattle.model.specs.Step.{timed, clock_after}
 use Rattle.model.specs.BoardBytes.{sound_previous}
