@@ -6,20 +6,16 @@ use Rattle.std.proofs.Common.{sym, ap₂, ◌∙◌, arith, length-append, lengt
 use Rattle.std.proofs.Math.ListN.{length}
 use borrow.Rule.Slice.PartMut.{put_mid}
 use Rattle.model.specs.Base.{sum}
-use Rattle.model.specs.Waitcnt.{Waits, rom_waits_of}
 use Rattle.model.specs.Step.{Media, State, Result, run, total, stepped, answer}
 use Rattle.model.specs.Sheet.{max_records, record_start, record_at, records_from, step_of}
 use Rattle.model.specs.BoardBytes.{answer_length, answer_bytes, answers_bytes}
 use Rattle.model.specs.Memory.{lengths_sum}
-use Rattle.model.specs.Laws.Sound.{SoundClock}
-use Rattle.model.proofs.Laws.Sound.{clock_after_sound}
 use Rattle.model.proofs.Laws.Choice.{all_of}
 use Rattle.model.proofs.Laws.Codec.{OfWidth, blocks_length, blocks_snoc, put_next}
 use Rattle.model.proofs.Laws.Run.{run_snoc, run_length, run_store}
 use Rattle.model.proofs.Laws.Limits.{records_length, steps_snoc}
-use Rattle.step.specs.Begun.{state_from, Runnable, Steps}
+use Rattle.step.specs.Begun.{state_from, Steps}
 use Rattle.step.specs.declared.Stepped.{Stepped}
-use Rattle.model.specs.declared.Clock.{Clock}
 use Rattle.model.specs.declared.Lengths.{Lengths}
 use Rattle.model.specs.declared.SheetRecord.{SheetRecord}
 use Rattle.model.specs.declared.Answer.{Answer}
@@ -41,18 +37,17 @@ pub record Beginning (m : Media) (s₀ : State) (sheet lent : List ℕ) (k : ℕ
 
 -- ---- the contract of `run_core`
 
--- what it asks: n records that stand in the sheet, room for their answers, a sound clock, and lengths that add up to the store
-pub record Runs (c : Clock) (l : Lengths) (n : ℕ) (sheet store answers : List ℕ) : Type 0 where
+-- what it asks: n records that stand in the sheet, room for their answers, and lengths that add up to the store
+pub record Runs (l : Lengths) (n : ℕ) (sheet store answers : List ℕ) : Type 0 where
   pub few : n ≤ max_records
   pub long : record_start n ≤ length sheet
   pub room : answer_length * n ≤ length answers
-  pub sound : SoundClock c
   pub whole : lengths_sum l ≡ length store
 
 -- what it promises: the beginning of as many steps as it tells, which are all n
 pub record Ends (m : Media) (s₀ : State) (sheet : List ℕ) (n : ℕ) (lent : List ℕ) (r : Done) (halves store answers : List ℕ)
     : Type 0 where
-  pub beginning : Beginning m s₀ sheet lent r.steps (state_from r.clock halves r.contents store) answers r.total
+  pub beginning : Beginning m s₀ sheet lent r.steps (state_from r.machine.clock halves r.machine.contents store) answers r.total
   pub all : r.steps ≡ n
 
 -- ---- one record more
@@ -131,38 +126,36 @@ module _ (m : Media) (s₀ : State) (sheet lent : List ℕ) where
 -- ---- the loop's invariant, with its beginning, its turn and its end as laws on plain lists
 
 pub record Going (m : Media) (s₀ : State) (sheet : List ℕ) (n : ℕ) (lent : List ℕ)
-    (waits : Waits) (s : State) (answers : List ℕ) (cycles k : ℕ) : Type 0 where
+    (s : State) (answers : List ℕ) (cycles k : ℕ) : Type 0 where
   pub beginning : Beginning m s₀ sheet lent k s answers cycles
   pub within : k ≤ n
   pub most : cycles ≤ 0xFFFF_FFFF * k
-  pub ready : Runnable s.board.clock waits m.lengths s.store
+  pub whole : lengths_sum m.lengths ≡ length s.store
 
 module _ {m : Media} {s₀ : State} {sheet lent : List ℕ} {n : ℕ} where
-  pub begin : {waits : Waits} → Runs s₀.board.clock m.lengths n sheet s₀.store lent
-      → waits ≡ rom_waits_of s₀.board.clock.waitcnt → Going m s₀ sheet n lent waits s₀ lent 0 0
-  begin r w =
+  pub begin : Runs m.lengths n sheet s₀.store lent → Going m s₀ sheet n lent s₀ lent 0 0
+  begin r =
       record {
         beginning = nothing m s₀ sheet lent;
         within = omega arith;
         most = omega arith;
-        ready = record { sound = r.sound; waits = w; whole = r.whole };
+        whole = r.whole;
       }
 
-  -- record k, whose step is `x`, is done: the step's own promise, its answer in its place, and the waits of the register as it
-  -- is now
-  module _ {k : ℕ} {s : State} {waits : Waits} {answers : List ℕ} {cycles : ℕ}
-      (g : Going m s₀ sheet n lent waits s answers cycles k) {x : Step} (record-k : x ≡ step_of (record_at sheet k))
+  -- record k, whose step is `x`, is done: the step's own promise, and its answer in its place
+  module _ {k : ℕ} {s : State} {answers : List ℕ} {cycles : ℕ}
+      (g : Going m s₀ sheet n lent s answers cycles k) {x : Step} (record-k : x ≡ step_of (record_at sheet k))
       {r : Stepped} {halves store : List ℕ} (step : Steps m s x r halves store) where
     -- the store keeps its length
     pub same_size : length store ≡ length s.store
     unfolding run
     same_size = ap (λ (t : State). length t.store) step.state_is ∙ run_store (length s.store) m s (x ∷ []) refl
 
-    pub turn : {new : Waits} {part : ℕ} {bytes : List ℕ} → k < n → r.answer.cycles ≤ 0xFFFF_FFFF → part ≡ answer_length
-        → bytes ≡ answer_bytes r.answer → new ≡ rom_waits_of r.clock.waitcnt
-        → Going m s₀ sheet n lent new (state_from r.clock halves r.contents store)
+    pub turn : {part : ℕ} {bytes : List ℕ} → k < n → r.answer.cycles ≤ 0xFFFF_FFFF → part ≡ answer_length
+        → bytes ≡ answer_bytes r.answer
+        → Going m s₀ sheet n lent (state_from r.machine.clock halves r.machine.contents store)
         (put_mid (answer_length * k) part answers bytes) (cycles + r.answer.cycles) (k + 1)
-    turn {new} {part} {bytes} below small twelve written w =
+    turn {part} {bytes} below small twelve written =
         let told : r.answer ≡ answer m s (step_of (record_at sheet k)) = step.answer_is ∙ ap (answer m s) record-k in
         record {
           beginning =
@@ -172,12 +165,5 @@ module _ {m : Media} {s₀ : State} {sheet lent : List ℕ} {n : ℕ} where
               (ap (λ (a : Answer). cycles + a.cycles) told);
           within = omega arith;
           most = omega (arith, g.most);
-          ready =
-              record {
-                sound =
-                    rw (ap (λ (t : State). t.board.clock) step.state_is)
-                    (clock_after_sound s.board.clock x g.ready.sound);
-                waits = w;
-                whole = g.ready.whole ∙ sym same_size;
-              };
+          whole = g.whole ∙ sym same_size;
         }

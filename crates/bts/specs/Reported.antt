@@ -57,12 +57,12 @@ module _ (i : Lent) (n : ℕ) (c : Clock) (h : List ℕ) (d : Contents) (en : n 
     (ec : c ≡ clock_of i.board) (eh : h ≡ halves_from i.board 20 8) (ed : d ≡ contents_of i.board) where
   pub accepted_from : (r : Report) (done : Done) (halves store board answers : List ℕ)
       → Ends (media_of i) (state_from c h d i.store) i.sheet n i.answers done halves store answers
-      → board ≡ board_bytes (record { clock = done.clock; halves = halves; contents = done.contents })
+      → board ≡ board_bytes (record { clock = done.machine.clock; halves = halves; contents = done.machine.contents })
       → r ≡ record { number = 0; index = n; total = done.total }
       → reported r board store answers ≡ outcome_by i Accepted
   accepted_from r done halves store board answers e eb er =
       ap (λ (x : Report). reported x board store answers) er
-      ∙ accepted i (state_from done.clock halves done.contents store)
+      ∙ accepted i (state_from done.machine.clock halves done.machine.contents store)
       (record { number = 0; index = n; total = done.total }) board answers
       (rw (e.all, en, ec, eh, ed) at e.beginning) eb refl en
 

@@ -19,6 +19,7 @@ use examine::{examine_grounds, examine_tariff};
 use loads::Media;
 use model::{BOARD_LENGTH, Lengths, Verdict};
 use records::sheet;
+use step::machine::Machine;
 
 // What a run gives back: 0, the number of records and the total; or the refusal's number and index, and 0.
 #[repr(C)]
@@ -55,23 +56,12 @@ fn run_accepted(
         rom.now answers.old lengths) Accepted }
 {
     let n = sheet::record_count(sheet);
-    let clock = board::load_clock(board);
-    let contents = board::load_contents(board);
+    let machine = Machine::new(board::load_clock(board), board::load_contents(board));
     let mut halves = board::load_halves(board);
     let media = Media { bios, rom, lengths };
-    let done = run::run_core(
-        sheet,
-        n,
-        clock,
-        contents,
-        &mut halves,
-        store,
-        &media,
-        answers,
-    );
-    let after = done.clock;
-    let left = done.contents;
-    board::put_board(board, after, halves, left);
+    let done = run::run_core(sheet, n, machine, &mut halves, store, &media, answers);
+    let left = done.machine;
+    board::put_board(board, left.clock, halves, left.contents);
     Report {
         number: 0,
         index: n as u32,

@@ -1,33 +1,20 @@
 // The one loop over the records of a sheet: each step gets the board and the store that the step before left, and its answer is
 // written where it belongs. Whatever runs a sheet runs it by this loop, so its contract is about a beginning of the sheet.
 ghost use Rattle.std.specs.Prelude.{◌≡◌};
-ghost use Rattle.model.specs.Waitcnt.{rom_waits_of};
 ghost use Rattle.step.specs.Begun.{state_from};
 ghost use Rattle.bts.specs.Beginning.{Runs, Ends};
 
 use loads::Media;
-use model::{ANSWER_LENGTH, Clock, Contents};
+use model::ANSWER_LENGTH;
 use records::answer::put_answer;
 use records::sheet::{record_at, rules_of, step_of};
+use step::machine::Machine;
 use step::take_step;
-use waits::waitcnt::WaitCnt;
-
-// The waits after a step: built anew only where the register changed.
-fn waits_after(waits: [[u8; 2]; 3], old: u16, new: u16) -> [[u8; 2]; 3]
-    requires { waits ≡ rom_waits_of old }
-    ensures { result ≡ rom_waits_of new }
-{
-    if old == new {
-        return waits;
-    }
-    waits::rom_waits(WaitCnt { raw: new })
-}
 
 // What a beginning of a sheet leaves besides the halfwords, the store and the answers: how many steps it has, and their cycles.
 #[derive(Clone, Copy)]
 pub struct Done {
-    pub clock: Clock,
-    pub contents: Contents,
+    pub machine: Machine,
     pub steps: usize,
     pub total: u64,
 }
@@ -36,43 +23,34 @@ pub struct Done {
 pub fn run_core(
     sheet: &[u8],
     n: usize,
-    clock: Clock,
-    contents: Contents,
+    machine: Machine,
     halves: &mut [u16; 8],
     store: &mut [u8],
     media: &Media<'_>,
     answers: &mut [u8],
 ) -> Done
-    requires { Runs clock media.now.lengths n sheet.now store.old answers.old }
+    requires { Runs media.now.lengths n sheet.now store.old answers.old }
     ensures { Ends media.now
-        (state_from clock halves.old contents store.old)
+        (state_from machine.clock halves.old machine.contents store.old)
         sheet.now n answers.old
         result halves.new store.new answers.new }
 {
     let version = rules_of(sheet);
-    let mut waits = waits::rom_waits(WaitCnt { raw: clock.waitcnt });
-    let mut current = clock;
-    let mut held = contents;
+    let mut current = machine;
     let mut total: u64 = 0;
     let mut k: usize = 0;
     while k < n {
         let step = step_of(record_at(sheet, version, k));
-        let taken = take_step(current, held, waits, halves, step, store, media);
+        let taken = take_step(current, halves, step, store, media);
         let answer = taken.answer;
         let at = ANSWER_LENGTH * k;
         put_answer(&mut answers[at..at + ANSWER_LENGTH], answer);
-        let after = taken.clock;
-        let fresh = waits_after(waits, current.waitcnt, after.waitcnt);
-        waits = fresh;
-        current = after;
-        let left = taken.contents;
-        held = left;
+        current = taken.machine;
         total += answer.cycles as u64;
         k += 1;
     }
     Done {
-        clock: current,
-        contents: held,
+        machine: current,
         steps: k,
         total,
     }

@@ -71,5 +71,5 @@ Writes c d z a v l before r after = Begins (media_from [] [] l) (state_from c []
 
 -- what a step leaves, and its answer
 pub record Steps (m : Media) (s : State) (x : Step) (r : Stepped) (halves store : List ℕ) : Type 0 where
-  pub state_is : state_from r.clock halves r.contents store ≡ stepped m s x
+  pub state_is : state_from r.machine.clock halves r.machine.contents store ≡ stepped m s x
   pub answer_is : r.answer ≡ answer m s x

@@ -19,6 +19,8 @@ use Rattle.model.specs.declared.Step.{Step}
 use Rattle.prefetch.specs.Ticked.{Ticked}
 use Rattle.step.specs.Begun.{state_from, Begins, Steps}
 use Rattle.step.specs.declared.Begun.{Begun}
+use Rattle.step.specs.declared.Stepped.{Stepped}
+use Rattle.model.specs.declared.Contents.{Contents}
 
 module _ (m : Media) (s : State) (x : Step) (t : Waits)
     (sound : SoundClock s.board.clock) (w : t ≡ rom_waits_of s.board.clock.waitcnt)
@@ -37,14 +39,22 @@ module _ (m : Media) (s : State) (x : Step) (t : Waits)
   pub tick_small : SmallWaits t
   tick_small = rw w (rom_waits_small c.waitcnt)
 
-  module _ (p : PrefetchBuffer) (h : List ℕ) (ticked : Ticked t m.rom b.idle b.clock.prefetch s.board.halves p h)
-      (after : Clock) (clocked : after ≡ with_prefetch b.clock p) where
+  -- the tick is over the ROM that is lent
+  module _ (p : PrefetchBuffer) (h : List ℕ) {rom : List ℕ} (lent : rom ≡ m.rom)
+      (ticked-over : Ticked t rom b.idle b.clock.prefetch s.board.halves p h) (after : Clock) (clocked : after ≡ with_prefetch b.clock p) where
+    ticked : Ticked t m.rom b.idle b.clock.prefetch s.board.halves p h
+    ticked = rw lent at ticked-over
+
     clock_is : after ≡ clock_after c x
     clock_is =
         clocked
         ∙ ap (with_prefetch b.clock) ticked.buffer
         ∙ ap₂ (λ (z : Begun) (v : Waits). with_prefetch z.clock (ticks v z.idle z.clock.prefetch)) begins.record_is w
         ∙ ap (with_prefetch step_timed.clock) (same_waits c x).buffer
+
+    -- what the step leaves asks for a sound clock
+    pub after_sound : SoundClock after
+    after_sound = rw clock_is (clock_after_sound c x sound)
 
     halves_is : h ≡ refilled m s step_timed
     halves_is =
@@ -90,5 +100,11 @@ module _ (m : Media) (s : State) (x : Step) (t : Waits)
           store = begins.store_is i;
         }
 
-    pub whole : Steps m s x (record { clock = after; contents = b.contents; answer = answered }) h u
-    whole = record { state_is = left; answer_is = told }
+    -- in what the step leaves
+    pub whole : {r : Stepped} → r.machine.clock ≡ after → r.machine.contents ≡ b.contents → r.answer ≡ answered
+        → Steps m s x r h u
+    whole clock contents answers =
+        record {
+          state_is = ap₂ (λ (k : Clock) (d : Contents). state_from k h d u) clock contents ∙ left;
+          answer_is = answers ∙ told;
+        }

@@ -8,20 +8,21 @@ ghost use Rattle.model.specs.Wait.{size_bytes_of, kind_at};
 ghost use Rattle.model.specs.Price.{price, previously, kind_after, data_beats_in, block_cycles_of};
 ghost use Rattle.model.specs.Load.{last_word_of};
 ghost use Rattle.model.specs.Laws.Bounds.{Short};
-ghost use Rattle.model.specs.Step as machine;
+ghost use Rattle.model.specs.Step as steps;
 ghost use Rattle.model.specs.declared.IsaState.TheVariants.{Arm, Thumb};
 ghost use Rattle.model.specs.declared.Step.TheVariants as kind;
 ghost use Rattle.step.specs.Begun as def;
-ghost use Rattle.step.specs.Begun.{Runnable, Priceable, Reads, Writes};
+ghost use Rattle.step.specs.Begun.{Priceable, Reads, Writes};
 ghost use Rattle.model.specs.Base.{further};
 ghost use Rattle.model.specs.Sheet.{max_words};
 ghost use Rattle.model.specs.Laws.Previous.{SoundPrevious};
-ghost use Rattle.step.specs.Block.{BlockRunnable, Loadable, Clears};
+ghost use Rattle.step.specs.Block.{Loadable, Clears};
 ghost use Rattle.step.specs.Fetch.{fetch_of, code_fetch};
 ghost use Rattle.loads.specs.Bus as loads;
 ghost use Rattle.model.specs.Memory.{lengths_sum};
 
 use loads::{Bus, Media};
+use machine::Machine;
 use model::{
     AccessSize, Answer, Clock, Contents, IsaState, Lengths, PrefetchBuffer, Previous, Region, Step,
     Target, TimingInput, Version, VideoMemory, Windowed,
@@ -29,6 +30,8 @@ use model::{
 use prefetch::Half;
 use stores::saturating_add;
 use waits::waitcnt::WaitCnt;
+
+pub mod machine;
 
 // A step up to its idle cycles, and how many of them follow.
 #[derive(Clone, Copy)]
@@ -43,7 +46,7 @@ struct Begun {
 
 // A step that answers nothing.
 fn unanswered(clock: Clock, contents: Contents, cycles: u32, idle: u32) -> Begun
-    ensures { result ≡ def.joining (machine.timing clock idle cycles 0) (machine.change 0 contents []) }
+    ensures { result ≡ def.joining (steps.timing clock idle cycles 0) (steps.change 0 contents []) }
 {
     Begun {
         clock,
@@ -76,7 +79,7 @@ fn data_price(
 // The clock after a data access at a lowered address, which is the previous one from now on (W-204). READ and WRITE price it and
 // remember it in lines of their own: in a function for both that takes and gives the clock, the clock would stand in memory.
 fn accessed(clock: Clock, size: AccessSize, addr: u32) -> Clock
-    ensures { result ≡ machine.with_previous clock (previously addr (size_bytes_of size)) }
+    ensures { result ≡ steps.with_previous clock (previously addr (size_bytes_of size)) }
 {
     let prefetch = clock.prefetch;
     let bytes = waits::shifted_bytes(size);
@@ -106,22 +109,29 @@ fn bus<'a>(contents: Contents, store: &'a [u8], media: &'a Media<'a>) -> Bus<'a>
 // READ: `read8`, `read16`, `read32`.
 #[tactic(auto, using(crate::proofs::Laws::access_laws), unfolding(model::specs::Memory::target, model::specs::Price::data_beats))]
 fn read_step(
-    clock: Clock,
-    contents: Contents,
-    waits: [[u8; 2]; 3],
+    machine: Machine,
     size: AccessSize,
     addr: u32,
     store: &[u8],
     media: &Media<'_>,
 ) -> Begun
-    requires { Runnable clock waits media.now.lengths store.now }
-    ensures { Reads clock contents size addr media.now store.now result }
+    requires { lengths_sum media.now.lengths ≡ length store.now }
+    ensures { Reads machine.clock machine.contents size addr media.now store.now result }
 {
+    let clock = machine.clock;
+    let contents = machine.contents;
     let region = region::decode(addr);
     let target = parts::target_in(region, addr, media.lengths);
     let value = bus(contents, store, media).read(size, target, addr);
     let at = waits::aligned(size, addr);
-    let price = data_price(clock.waitcnt, clock.previous, waits, size, at, region);
+    let price = data_price(
+        clock.waitcnt,
+        clock.previous,
+        machine.waits,
+        size,
+        at,
+        region,
+    );
     let after = accessed(clock, size, at);
     Begun {
         clock: after,
@@ -134,7 +144,7 @@ fn read_step(
 }
 
 fn with_counters(contents: Contents, vram: u64, oam: u64, palette: u64) -> Contents
-    ensures { result ≡ machine.with_counts contents vram oam palette }
+    ensures { result ≡ steps.with_counts contents vram oam palette }
 {
     Contents {
         cpu_pc: contents.cpu_pc,
@@ -147,7 +157,7 @@ fn with_counters(contents: Contents, vram: u64, oam: u64, palette: u64) -> Conte
 
 // n halfwords go to the counter of a video memory.
 fn count_in(contents: Contents, memory: VideoMemory, n: u64) -> Contents
-    ensures { result ≡ machine.counted_in memory n contents }
+    ensures { result ≡ steps.counted_in memory n contents }
 {
     let vram = contents.vram_write_count;
     let oam = contents.oam_write_count;
@@ -161,7 +171,7 @@ fn count_in(contents: Contents, memory: VideoMemory, n: u64) -> Contents
 
 // The counters after a store that counted n halfwords in the memory that it met.
 fn count_store(contents: Contents, target: Target, n: u64) -> Contents
-    ensures { result ≡ machine.counted_at target n contents }
+    ensures { result ≡ steps.counted_at target n contents }
 {
     match target {
         Target::Unused => contents,
@@ -177,24 +187,30 @@ fn count_store(contents: Contents, target: Target, n: u64) -> Contents
 // whole run is quicker by it.
 #[tactic(auto, using(crate::proofs::Laws::access_laws), unfolding(model::specs::Memory::target, model::specs::Price::data_beats, model::specs::Store::puts, model::specs::Step::count_store))]
 fn write_step(
-    clock: Clock,
-    contents: Contents,
-    waits: [[u8; 2]; 3],
+    machine: Machine,
     size: AccessSize,
     addr: u32,
     value: u32,
     store: &mut [u8],
     lengths: Lengths,
 ) -> Begun
-    requires { Runnable clock waits lengths store.old }
-    ensures { Writes clock contents size addr value lengths store.old result store.new }
+    requires { lengths_sum lengths ≡ length store.old }
+    ensures { Writes machine.clock machine.contents size addr value lengths store.old result store.new }
 {
     let region = region::decode(addr);
     let at = waits::aligned(size, addr);
-    let price = data_price(clock.waitcnt, clock.previous, waits, size, at, region);
+    let clock = machine.clock;
+    let price = data_price(
+        clock.waitcnt,
+        clock.previous,
+        machine.waits,
+        size,
+        at,
+        region,
+    );
     let target = parts::target_in(region, addr, lengths);
     let stored = stores::write(size, target, addr, value, store, lengths);
-    let counted = count_store(contents, target, stored.halfwords);
+    let counted = count_store(machine.contents, target, stored.halfwords);
     let after = accessed(clock, size, at);
     Begun {
         clock: after,
@@ -250,7 +266,7 @@ fn last_of(addr: u32, words: u32) -> u32
 #[tactic(auto, using(crate::proofs::Laws::block_laws))]
 fn block_clock(clock: Clock, addr: u32, words: u32) -> Clock
     requires { (1 ≤ words) × (words ≤ max_words) }
-    ensures { result ≡ (machine.block_timed clock addr words).clock }
+    ensures { result ≡ (steps.block_timed clock addr words).clock }
 {
     accessed(
         clock,
@@ -272,16 +288,18 @@ fn last_word(bus: &Bus<'_>, addr: u32, words: u32) -> u32
 
 // BLOCK READ: `read32`, once a word; the last word is the answer.
 fn block_read_step(
-    clock: Clock,
-    contents: Contents,
+    machine: Machine,
     addr: u32,
     words: u32,
     store: &[u8],
     media: &Media<'_>,
 ) -> Begun
-    requires { BlockRunnable clock media.now.lengths store.now × Short (kind.BlockRead addr words) }
-    ensures { result ≡ def.begun media.now (def.state_from clock [] contents store.now) (kind.BlockRead addr words) }
+    requires { (lengths_sum media.now.lengths ≡ length store.now) × Short (kind.BlockRead addr words) }
+    ensures { result ≡ def.begun media.now (def.state_from machine.clock [] machine.contents store.now)
+        (kind.BlockRead addr words) }
 {
+    let clock = machine.clock;
+    let contents = machine.contents;
     let cycles = block_cycles(clock.waitcnt, clock.previous, addr, words);
     let value = last_word(&bus(contents, store, media), addr, words);
     let after = block_clock(clock, addr, words);
@@ -312,7 +330,7 @@ fn clear_words(
     lengths: Lengths,
 ) -> Zeroed
     requires { Loadable lengths words store.old }
-    ensures { Clears (machine.block_stores lengths contents store.old addr words)
+    ensures { Clears (steps.block_stores lengths contents store.old addr words)
         store.old result store.new }
 {
     let mut held = contents;
@@ -337,19 +355,19 @@ fn clear_words(
 // BLOCK WRITE: `write32` of 0, once a word.
 #[tactic(auto, using(crate::proofs::Laws::block_laws))]
 fn block_write_step(
-    clock: Clock,
-    contents: Contents,
+    machine: Machine,
     addr: u32,
     words: u32,
     store: &mut [u8],
     lengths: Lengths,
 ) -> Begun
-    requires { BlockRunnable clock lengths store.old × Short (kind.BlockWrite addr words) }
-    ensures { def.Begins (def.media_from [] [] lengths) (def.state_from clock [] contents store.old)
+    requires { (lengths_sum lengths ≡ length store.old) × Short (kind.BlockWrite addr words) }
+    ensures { def.Begins (def.media_from [] [] lengths) (def.state_from machine.clock [] machine.contents store.old)
         (kind.BlockWrite addr words) result store.new }
 {
+    let clock = machine.clock;
     let cycles = block_cycles(clock.waitcnt, clock.previous, addr, words);
-    let zeroed = clear_words(contents, addr, words, store, lengths);
+    let zeroed = clear_words(machine.contents, addr, words, store, lengths);
     let after = block_clock(clock, addr, words);
     let left = zeroed.contents;
     Begun {
@@ -365,7 +383,7 @@ fn block_write_step(
 // WAITCNT: `write`, then `apply_waitcnt`.
 #[tactic(auto, unfolding(model::specs::Step::set_waitcnt))]
 fn set_waitcnt(clock: Clock, value: u16) -> Clock
-    ensures { result ≡ machine.set_waitcnt clock value }
+    ensures { result ≡ steps.set_waitcnt clock value }
 {
     let old = WaitCnt { raw: clock.waitcnt };
     let register = old.write(value);
@@ -380,7 +398,7 @@ fn set_waitcnt(clock: Clock, value: u16) -> Clock
 }
 
 fn with_prefetch(clock: Clock, prefetch: PrefetchBuffer) -> Clock
-    ensures { result ≡ machine.with_prefetch clock prefetch }
+    ensures { result ≡ steps.with_prefetch clock prefetch }
 {
     Clock {
         waitcnt: clock.waitcnt,
@@ -392,7 +410,7 @@ fn with_prefetch(clock: Clock, prefetch: PrefetchBuffer) -> Clock
 
 // The clock after a step that clears the previous data access (W-204).
 fn cleared(clock: Clock) -> Clock
-    ensures { result ≡ machine.cleared clock }
+    ensures { result ≡ steps.cleared clock }
 {
     let prefetch = clock.prefetch;
     Clock {
@@ -405,20 +423,21 @@ fn cleared(clock: Clock) -> Clock
 
 // RESTART: `restart`.
 #[tactic(auto, unfolding(model::specs::Waitcnt::rom_waits_of))]
-fn restarted(clock: Clock, waits: [[u8; 2]; 3], addr: u32) -> Clock
-    requires { waits ≡ rom_waits_of clock.waitcnt }
-    ensures { result ≡ (machine.timed clock (kind.Restart addr)).clock }
+fn restarted(machine: Machine, addr: u32) -> Clock
+    ensures { result ≡ (steps.timed machine.clock (kind.Restart addr)).clock }
 {
+    let clock = machine.clock;
     let p = clock.prefetch;
-    cleared(with_prefetch(clock, prefetch::restart(p, addr, waits)))
+    cleared(with_prefetch(clock, prefetch::restart(p, addr, machine.waits)))
 }
 
 // FETCH: `try_fetch_half`.
 #[tactic(auto, unfolding(prefetch::specs::Found::found, model::specs::Step::half_at))]
-fn fetch_step(clock: Clock, contents: Contents, halves: &[u16; 8], addr: u32) -> Begun
-    requires { clock.prefetch.head < 8 }
-    ensures { result ≡ def.bare clock halves.now contents (kind.Fetch addr) }
+fn fetch_step(machine: Machine, halves: &[u16; 8], addr: u32) -> Begun
+    ensures { result ≡ def.bare machine.clock halves.now machine.contents (kind.Fetch addr) }
 {
+    let clock = machine.clock;
+    let contents = machine.contents;
     let p = clock.prefetch;
     let fetched = prefetch::try_fetch_half(p, halves, addr);
     let prefetch = fetched.prefetch;
@@ -499,18 +518,18 @@ fn fetch_code(buffer: PrefetchBuffer, isa: IsaState, addr: u32, waits: [[u8; 2];
 // INSTRUCTION: the price with the board's switch and force flag, then the fetches; the idle cycles are left to the caller.
 #[tactic(auto, using(crate::proofs::Laws::access_laws), unfolding(model::specs::Step::code_clock, model::specs::Step::code_fetched, model::specs::Step::code_hits))]
 fn instruction_step(
-    clock: Clock,
-    contents: Contents,
-    waits: [[u8; 2]; 3],
+    machine: Machine,
     version: Version,
     isa: IsaState,
     addr: u32,
     opcode: u32,
     pc_changed: bool,
 ) -> Begun
-    requires { (waits ≡ rom_waits_of clock.waitcnt) × (clock.prefetch.head < 8) }
-    ensures { result ≡ def.bare clock [] contents (kind.Instruction version isa addr opcode pc_changed) }
+    ensures { result ≡ def.bare machine.clock [] machine.contents (kind.Instruction version isa addr opcode pc_changed) }
 {
+    let clock = machine.clock;
+    let contents = machine.contents;
+    let waits = machine.waits;
     let p = clock.prefetch;
     let input = TimingInput {
         version,
@@ -543,7 +562,7 @@ fn instruction_step(
 
 // PC: `cpu_pc`.
 fn with_pc(contents: Contents, pc: u32) -> Contents
-    ensures { result ≡ machine.with_pc contents pc }
+    ensures { result ≡ steps.with_pc contents pc }
 {
     Contents {
         cpu_pc: pc,
@@ -556,7 +575,7 @@ fn with_pc(contents: Contents, pc: u32) -> Contents
 
 // LATCH: `last_bios_opcode`.
 fn with_latch(contents: Contents, latch: u32) -> Contents
-    ensures { result ≡ machine.with_latch contents latch }
+    ensures { result ≡ steps.with_latch contents latch }
 {
     Contents {
         cpu_pc: contents.cpu_pc,
@@ -569,25 +588,23 @@ fn with_latch(contents: Contents, latch: u32) -> Contents
 
 // A step up to its idle cycles.
 fn begin(
-    clock: Clock,
-    contents: Contents,
+    machine: Machine,
     halves: &[u16; 8],
-    waits: [[u8; 2]; 3],
     step: Step,
     store: &mut [u8],
     media: &Media<'_>,
 ) -> Begun
-    requires { Runnable clock waits media.now.lengths store.old × Short step }
+    requires { (lengths_sum media.now.lengths ≡ length store.old) × Short step }
     ensures { def.Begins media.now
-        (def.state_from clock halves.now contents store.old)
+        (def.state_from machine.clock halves.now machine.contents store.old)
         step result store.new }
 {
+    let clock = machine.clock;
+    let contents = machine.contents;
     match step {
-        Step::Read(size, addr) => read_step(clock, contents, waits, size, addr, store, media),
+        Step::Read(size, addr) => read_step(machine, size, addr, store, media),
         Step::Write(size, addr, value) => write_step(
-            clock,
-            contents,
-            waits,
+            machine,
             size,
             addr,
             value,
@@ -596,17 +613,16 @@ fn begin(
         ),
         Step::Waitcnt(value) => unanswered(cleared(set_waitcnt(clock, value)), contents, 0, 0),
         Step::Idle(cycles) => unanswered(clock, contents, cycles, cycles),
-        Step::Fetch(addr) => fetch_step(clock, contents, halves, addr),
-        Step::Restart(addr) => unanswered(restarted(clock, waits, addr), contents, 0, 0),
+        Step::Fetch(addr) => fetch_step(machine, halves, addr),
+        Step::Restart(addr) => unanswered(restarted(machine, addr), contents, 0, 0),
         Step::Instruction(version, isa, addr, opcode, pc_changed) => instruction_step(
-            clock, contents, waits, version, isa, addr, opcode, pc_changed,
+            machine, version, isa, addr, opcode, pc_changed,
         ),
         Step::Pc(addr) => unanswered(clock, with_pc(contents, addr), 0, 0),
         Step::Latch(value) => unanswered(clock, with_latch(contents, value), 0, 0),
-        Step::BlockRead(addr, words) => block_read_step(clock, contents, addr, words, store, media),
+        Step::BlockRead(addr, words) => block_read_step(machine, addr, words, store, media),
         Step::BlockWrite(addr, words) => block_write_step(
-            clock,
-            contents,
+            machine,
             addr,
             words,
             store,
@@ -618,32 +634,28 @@ fn begin(
 // What a step leaves besides the halfwords and the store, and its answer.
 #[derive(Clone, Copy)]
 pub struct Stepped {
-    pub clock: Clock,
-    pub contents: Contents,
+    pub machine: Machine,
     pub answer: Answer,
 }
 
 // A step whole. Its idle cycles are ticked here, at one place for every kind: they come after all else that it does to the clock.
 pub fn take_step(
-    clock: Clock,
-    contents: Contents,
-    waits: [[u8; 2]; 3],
+    machine: Machine,
     halves: &mut [u16; 8],
     step: Step,
     store: &mut [u8],
     media: &Media<'_>,
 ) -> Stepped
-    requires { Runnable clock waits media.now.lengths store.old × Short step }
+    requires { (lengths_sum media.now.lengths ≡ length store.old) × Short step }
     ensures { def.Steps media.now
-        (def.state_from clock halves.old contents store.old)
+        (def.state_from machine.clock halves.old machine.contents store.old)
         step result halves.new store.new }
 {
-    let begun = begin(clock, contents, halves, waits, step, store, media);
+    let begun = begin(machine, halves, step, store, media);
     let before = begun.clock;
     let buffer = before.prefetch;
-    let prefetch = prefetch::tick_idle(buffer, halves, begun.idle, waits, media.rom);
+    let prefetch = prefetch::tick_idle(buffer, halves, begun.idle, machine.waits, media.rom);
     let after = with_prefetch(before, prefetch);
-    let contents = begun.contents;
     let answer = Answer {
         value: begun.value,
         cycles: begun.cycles,
@@ -652,8 +664,7 @@ pub fn take_step(
         force: after.force_next_fetch_n,
     };
     Stepped {
-        clock: after,
-        contents,
+        machine: machine.after(after, begun.contents),
         answer,
     }
 }
