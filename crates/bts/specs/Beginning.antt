@@ -6,6 +6,7 @@ use Rattle.std.proofs.Common.{sym, ap₂, ◌∙◌, arith, length-append, lengt
 use Rattle.std.proofs.Math.ListN.{length}
 use borrow.Rule.Slice.PartMut.{put_mid}
 use Rattle.model.specs.Base.{sum}
+use Rattle.model.specs.Waitcnt.{Waits, rom_waits_of}
 use Rattle.model.specs.Step.{Media, State, Result, run, total, stepped, answer}
 use Rattle.model.specs.Sheet.{max_records, record_start, record_at, records_from, step_of}
 use Rattle.model.specs.BoardBytes.{answer_length, answer_bytes, answers_bytes}
@@ -126,36 +127,40 @@ module _ (m : Media) (s₀ : State) (sheet lent : List ℕ) where
 -- ---- the loop's invariant, with its beginning, its turn and its end as laws on plain lists
 
 pub record Going (m : Media) (s₀ : State) (sheet : List ℕ) (n : ℕ) (lent : List ℕ)
-    (s : State) (answers : List ℕ) (cycles k : ℕ) : Type 0 where
+    (waits : Waits) (s : State) (answers : List ℕ) (cycles k : ℕ) : Type 0 where
   pub beginning : Beginning m s₀ sheet lent k s answers cycles
   pub within : k ≤ n
   pub most : cycles ≤ 0xFFFF_FFFF * k
+  pub current : waits ≡ rom_waits_of s.board.clock.waitcnt
   pub whole : lengths_sum m.lengths ≡ length s.store
 
 module _ {m : Media} {s₀ : State} {sheet lent : List ℕ} {n : ℕ} where
-  pub begin : Runs m.lengths n sheet s₀.store lent → Going m s₀ sheet n lent s₀ lent 0 0
-  begin r =
+  pub begin : {waits : Waits} → Runs m.lengths n sheet s₀.store lent
+      → waits ≡ rom_waits_of s₀.board.clock.waitcnt → Going m s₀ sheet n lent waits s₀ lent 0 0
+  begin r w =
       record {
         beginning = nothing m s₀ sheet lent;
         within = omega arith;
         most = omega arith;
+        current = w;
         whole = r.whole;
       }
 
-  -- record k, whose step is `x`, is done: the step's own promise, and its answer in its place
-  module _ {k : ℕ} {s : State} {answers : List ℕ} {cycles : ℕ}
-      (g : Going m s₀ sheet n lent s answers cycles k) {x : Step} (record-k : x ≡ step_of (record_at sheet k))
+  -- record k, whose step is `x`, is done: the step's own promise, its answer in its place, and the waits of the register as it
+  -- is now
+  module _ {k : ℕ} {s : State} {waits : Waits} {answers : List ℕ} {cycles : ℕ}
+      (g : Going m s₀ sheet n lent waits s answers cycles k) {x : Step} (record-k : x ≡ step_of (record_at sheet k))
       {r : Stepped} {halves store : List ℕ} (step : Steps m s x r halves store) where
     -- the store keeps its length
     pub same_size : length store ≡ length s.store
     unfolding run
     same_size = ap (λ (t : State). length t.store) step.state_is ∙ run_store (length s.store) m s (x ∷ []) refl
 
-    pub turn : {part : ℕ} {bytes : List ℕ} → k < n → r.answer.cycles ≤ 0xFFFF_FFFF → part ≡ answer_length
-        → bytes ≡ answer_bytes r.answer
-        → Going m s₀ sheet n lent (state_from r.machine.clock halves r.machine.contents store)
+    pub turn : {new : Waits} {part : ℕ} {bytes : List ℕ} → k < n → r.answer.cycles ≤ 0xFFFF_FFFF → part ≡ answer_length
+        → bytes ≡ answer_bytes r.answer → new ≡ rom_waits_of r.machine.clock.waitcnt
+        → Going m s₀ sheet n lent new (state_from r.machine.clock halves r.machine.contents store)
         (put_mid (answer_length * k) part answers bytes) (cycles + r.answer.cycles) (k + 1)
-    turn {part} {bytes} below small twelve written =
+    turn {new} {part} {bytes} below small twelve written w =
         let told : r.answer ≡ answer m s (step_of (record_at sheet k)) = step.answer_is ∙ ap (answer m s) record-k in
         record {
           beginning =
@@ -165,5 +170,6 @@ module _ {m : Media} {s₀ : State} {sheet lent : List ℕ} {n : ℕ} where
               (ap (λ (a : Answer). cycles + a.cycles) told);
           within = omega arith;
           most = omega (arith, g.most);
+          current = w;
           whole = g.whole ∙ sym same_size;
         }

@@ -56,7 +56,10 @@ fn run_accepted(
         rom.now answers.old lengths) Accepted }
 {
     let n = sheet::record_count(sheet);
-    let machine = Machine::new(board::load_clock(board), board::load_contents(board));
+    let machine = Machine {
+        clock: board::load_clock(board),
+        contents: board::load_contents(board),
+    };
     let mut halves = board::load_halves(board);
     let media = Media { bios, rom, lengths };
     let done = run::run_core(sheet, n, machine, &mut halves, store, &media, answers);

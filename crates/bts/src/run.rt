@@ -1,6 +1,7 @@
 // The one loop over the records of a sheet: each step gets the board and the store that the step before left, and its answer is
 // written where it belongs. Whatever runs a sheet runs it by this loop, so its contract is about a beginning of the sheet.
 ghost use Rattle.std.specs.Prelude.{◌≡◌};
+ghost use Rattle.model.specs.Waitcnt.{rom_waits_of};
 ghost use Rattle.step.specs.Begun.{state_from};
 ghost use Rattle.bts.specs.Beginning.{Runs, Ends};
 
@@ -10,6 +11,18 @@ use records::answer::put_answer;
 use records::sheet::{record_at, rules_of, step_of};
 use step::machine::Machine;
 use step::take_step;
+use waits::waitcnt::WaitCnt;
+
+// The waits after a step: built anew only where the register changed.
+fn waits_after(waits: [[u8; 2]; 3], old: u16, new: u16) -> [[u8; 2]; 3]
+    requires { waits ≡ rom_waits_of old }
+    ensures { result ≡ rom_waits_of new }
+{
+    if old == new {
+        return waits;
+    }
+    waits::rom_waits(WaitCnt { raw: new })
+}
 
 // What a beginning of a sheet leaves besides the halfwords, the store and the answers: how many steps it has, and their cycles.
 #[derive(Clone, Copy)]
@@ -36,16 +49,22 @@ pub fn run_core(
         result halves.new store.new answers.new }
 {
     let version = rules_of(sheet);
+    let mut waits = waits::rom_waits(WaitCnt {
+        raw: machine.clock.waitcnt,
+    });
     let mut current = machine;
     let mut total: u64 = 0;
     let mut k: usize = 0;
     while k < n {
         let step = step_of(record_at(sheet, version, k));
-        let taken = take_step(current, halves, step, store, media);
+        let taken = take_step(current, waits, halves, step, store, media);
         let answer = taken.answer;
         let at = ANSWER_LENGTH * k;
         put_answer(&mut answers[at..at + ANSWER_LENGTH], answer);
-        current = taken.machine;
+        let after = taken.machine;
+        let fresh = waits_after(waits, current.clock.waitcnt, after.clock.waitcnt);
+        waits = fresh;
+        current = after;
         total += answer.cycles as u64;
         k += 1;
     }

@@ -8,7 +8,7 @@ use Rattle.model.specs.Memory.{lengths_sum}
 use Rattle.model.specs.Store.{landed}
 use Rattle.model.specs.Step.{Media, State, Timed, timed, Changed, changed, hits_of, stepped, answer, board_with}
 use Rattle.model.specs.Laws.Previous.{SoundPrevious}
-use Rattle.model.specs.Laws.Sound.{SoundClock}
+use Rattle.model.specs.Laws.Bounds.{Short}
 use Rattle.model.specs.declared.Region.{Region}
 use Rattle.model.specs.declared.AccessSize.{AccessSize}
 use Rattle.model.specs.declared.Clock.{Clock}
@@ -31,11 +31,11 @@ no_lengths = record { ewram = 0; iwram = 0; io = 0; palette = 0; vram = 0; oam =
 abbrev pub state_from : Clock → List ℕ → Contents → List ℕ → State
 state_from clock halves contents store = record { board = board_with clock halves contents; store = store }
 
--- a sound clock with its waits, and lengths that add up to the store
-pub record Runnable (c : Clock) (t : Waits) (l : Lengths) (store : List ℕ) : Type 0 where
-  pub sound : SoundClock c
+-- what a step asks: the waits of the register, lengths that add up to the store, and words that a block may have
+pub record Takes (c : Clock) (t : Waits) (l : Lengths) (store : List ℕ) (x : Step) : Type 0 where
   pub waits : t ≡ rom_waits_of c.waitcnt
   pub whole : lengths_sum l ≡ length store
+  pub short : Short x
 
 -- what a price asks: the waits of the register, a sound previous access, and the region of the address
 pub record Priceable (w : ℕ) (p : Previous) (t : Waits) (a : ℕ) (r : Region) : Type 0 where

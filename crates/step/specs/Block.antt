@@ -14,7 +14,6 @@ use Rattle.model.specs.Step.{with_previous, block_timed, Changed, counted_at, co
 use Rattle.model.specs.Sheet.{max_words}
 use Rattle.model.proofs.Laws.Bounds.{data_between}
 use Rattle.model.proofs.Laws.Landed.{four_land}
-use Rattle.model.specs.Laws.Sound.{SoundClock}
 use Rattle.model.specs.Laws.Previous.{SoundPrevious}
 use Rattle.model.proofs.Laws.Previous.{access_sound}
 use Rattle.model.proofs.Laws.Run.{landed_length}
@@ -27,11 +26,6 @@ use Rattle.model.specs.declared.Target.{Target}
 use Rattle.parts.specs.declared.Stored.{Stored}
 use Rattle.stores.specs.Stored.{StoredWord}
 use Rattle.step.specs.declared.Zeroed.{Zeroed}
-
--- a sound clock, and lengths that add up to the store
-pub record BlockRunnable (c : Clock) (l : Lengths) (store : List ℕ) : Type 0 where
-  pub sound : SoundClock c
-  pub whole : lengths_sum l ≡ length store
 
 -- ---- in time
 

@@ -12,7 +12,7 @@ ghost use Rattle.model.specs.Step as steps;
 ghost use Rattle.model.specs.declared.IsaState.TheVariants.{Arm, Thumb};
 ghost use Rattle.model.specs.declared.Step.TheVariants as kind;
 ghost use Rattle.step.specs.Begun as def;
-ghost use Rattle.step.specs.Begun.{Priceable, Reads, Writes};
+ghost use Rattle.step.specs.Begun.{Priceable, Takes, Reads, Writes};
 ghost use Rattle.model.specs.Base.{further};
 ghost use Rattle.model.specs.Sheet.{max_words};
 ghost use Rattle.model.specs.Laws.Previous.{SoundPrevious};
@@ -110,12 +110,13 @@ fn bus<'a>(contents: Contents, store: &'a [u8], media: &'a Media<'a>) -> Bus<'a>
 #[tactic(auto, using(crate::proofs::Laws::access_laws), unfolding(model::specs::Memory::target, model::specs::Price::data_beats))]
 fn read_step(
     machine: Machine,
+    waits: [[u8; 2]; 3],
     size: AccessSize,
     addr: u32,
     store: &[u8],
     media: &Media<'_>,
 ) -> Begun
-    requires { lengths_sum media.now.lengths ≡ length store.now }
+    requires { (waits ≡ rom_waits_of machine.clock.waitcnt) × (lengths_sum media.now.lengths ≡ length store.now) }
     ensures { Reads machine.clock machine.contents size addr media.now store.now result }
 {
     let clock = machine.clock;
@@ -124,14 +125,7 @@ fn read_step(
     let target = parts::target_in(region, addr, media.lengths);
     let value = bus(contents, store, media).read(size, target, addr);
     let at = waits::aligned(size, addr);
-    let price = data_price(
-        clock.waitcnt,
-        clock.previous,
-        machine.waits,
-        size,
-        at,
-        region,
-    );
+    let price = data_price(clock.waitcnt, clock.previous, waits, size, at, region);
     let after = accessed(clock, size, at);
     Begun {
         clock: after,
@@ -188,26 +182,20 @@ fn count_store(contents: Contents, target: Target, n: u64) -> Contents
 #[tactic(auto, using(crate::proofs::Laws::access_laws), unfolding(model::specs::Memory::target, model::specs::Price::data_beats, model::specs::Store::puts, model::specs::Step::count_store))]
 fn write_step(
     machine: Machine,
+    waits: [[u8; 2]; 3],
     size: AccessSize,
     addr: u32,
     value: u32,
     store: &mut [u8],
     lengths: Lengths,
 ) -> Begun
-    requires { lengths_sum lengths ≡ length store.old }
+    requires { (waits ≡ rom_waits_of machine.clock.waitcnt) × (lengths_sum lengths ≡ length store.old) }
     ensures { Writes machine.clock machine.contents size addr value lengths store.old result store.new }
 {
     let region = region::decode(addr);
     let at = waits::aligned(size, addr);
     let clock = machine.clock;
-    let price = data_price(
-        clock.waitcnt,
-        clock.previous,
-        machine.waits,
-        size,
-        at,
-        region,
-    );
+    let price = data_price(clock.waitcnt, clock.previous, waits, size, at, region);
     let target = parts::target_in(region, addr, lengths);
     let stored = stores::write(size, target, addr, value, store, lengths);
     let counted = count_store(machine.contents, target, stored.halfwords);
@@ -423,12 +411,13 @@ fn cleared(clock: Clock) -> Clock
 
 // RESTART: `restart`.
 #[tactic(auto, unfolding(model::specs::Waitcnt::rom_waits_of))]
-fn restarted(machine: Machine, addr: u32) -> Clock
+fn restarted(machine: Machine, waits: [[u8; 2]; 3], addr: u32) -> Clock
+    requires { waits ≡ rom_waits_of machine.clock.waitcnt }
     ensures { result ≡ (steps.timed machine.clock (kind.Restart addr)).clock }
 {
     let clock = machine.clock;
     let p = clock.prefetch;
-    cleared(with_prefetch(clock, prefetch::restart(p, addr, machine.waits)))
+    cleared(with_prefetch(clock, prefetch::restart(p, addr, waits)))
 }
 
 // FETCH: `try_fetch_half`.
@@ -519,17 +508,18 @@ fn fetch_code(buffer: PrefetchBuffer, isa: IsaState, addr: u32, waits: [[u8; 2];
 #[tactic(auto, using(crate::proofs::Laws::access_laws), unfolding(model::specs::Step::code_clock, model::specs::Step::code_fetched, model::specs::Step::code_hits))]
 fn instruction_step(
     machine: Machine,
+    waits: [[u8; 2]; 3],
     version: Version,
     isa: IsaState,
     addr: u32,
     opcode: u32,
     pc_changed: bool,
 ) -> Begun
+    requires { waits ≡ rom_waits_of machine.clock.waitcnt }
     ensures { result ≡ def.bare machine.clock [] machine.contents (kind.Instruction version isa addr opcode pc_changed) }
 {
     let clock = machine.clock;
     let contents = machine.contents;
-    let waits = machine.waits;
     let p = clock.prefetch;
     let input = TimingInput {
         version,
@@ -589,12 +579,13 @@ fn with_latch(contents: Contents, latch: u32) -> Contents
 // A step up to its idle cycles.
 fn begin(
     machine: Machine,
+    waits: [[u8; 2]; 3],
     halves: &[u16; 8],
     step: Step,
     store: &mut [u8],
     media: &Media<'_>,
 ) -> Begun
-    requires { (lengths_sum media.now.lengths ≡ length store.old) × Short step }
+    requires { Takes machine.clock waits media.now.lengths store.old step }
     ensures { def.Begins media.now
         (def.state_from machine.clock halves.now machine.contents store.old)
         step result store.new }
@@ -602,9 +593,10 @@ fn begin(
     let clock = machine.clock;
     let contents = machine.contents;
     match step {
-        Step::Read(size, addr) => read_step(machine, size, addr, store, media),
+        Step::Read(size, addr) => read_step(machine, waits, size, addr, store, media),
         Step::Write(size, addr, value) => write_step(
             machine,
+            waits,
             size,
             addr,
             value,
@@ -614,9 +606,9 @@ fn begin(
         Step::Waitcnt(value) => unanswered(cleared(set_waitcnt(clock, value)), contents, 0, 0),
         Step::Idle(cycles) => unanswered(clock, contents, cycles, cycles),
         Step::Fetch(addr) => fetch_step(machine, halves, addr),
-        Step::Restart(addr) => unanswered(restarted(machine, addr), contents, 0, 0),
+        Step::Restart(addr) => unanswered(restarted(machine, waits, addr), contents, 0, 0),
         Step::Instruction(version, isa, addr, opcode, pc_changed) => instruction_step(
-            machine, version, isa, addr, opcode, pc_changed,
+            machine, waits, version, isa, addr, opcode, pc_changed,
         ),
         Step::Pc(addr) => unanswered(clock, with_pc(contents, addr), 0, 0),
         Step::Latch(value) => unanswered(clock, with_latch(contents, value), 0, 0),
@@ -641,20 +633,21 @@ pub struct Stepped {
 // A step whole. Its idle cycles are ticked here, at one place for every kind: they come after all else that it does to the clock.
 pub fn take_step(
     machine: Machine,
+    waits: [[u8; 2]; 3],
     halves: &mut [u16; 8],
     step: Step,
     store: &mut [u8],
     media: &Media<'_>,
 ) -> Stepped
-    requires { (lengths_sum media.now.lengths ≡ length store.old) × Short step }
+    requires { Takes machine.clock waits media.now.lengths store.old step }
     ensures { def.Steps media.now
         (def.state_from machine.clock halves.old machine.contents store.old)
         step result halves.new store.new }
 {
-    let begun = begin(machine, halves, step, store, media);
+    let begun = begin(machine, waits, halves, step, store, media);
     let before = begun.clock;
     let buffer = before.prefetch;
-    let prefetch = prefetch::tick_idle(buffer, halves, begun.idle, machine.waits, media.rom);
+    let prefetch = prefetch::tick_idle(buffer, halves, begun.idle, waits, media.rom);
     let after = with_prefetch(before, prefetch);
     let answer = Answer {
         value: begun.value,
@@ -664,7 +657,10 @@ pub fn take_step(
         force: after.force_next_fetch_n,
     };
     Stepped {
-        machine: machine.after(after, begun.contents),
+        machine: Machine {
+            clock: after,
+            contents: begun.contents,
+        },
         answer,
     }
 }
