@@ -30,7 +30,7 @@ use Rattle.model.specs.declared.Clock.{Clock}
 use Rattle.model.specs.declared.SheetRecord.{SheetRecord}
 use Rattle.model.specs.declared.Step.{Step}
 use Rattle.model.specs.declared.Refusal.{Refusal}
-use Rattle.model.specs.declared.Verdict.TheVariants.{Accepted, Refused}
+use Rattle.model.specs.Verdict.{Accepted, Refused}
 use Rattle.bts.specs.declared.Report.{Report}
 use Rattle.bts.specs.Reported.{reported, outcome_is, no_refusal, all_records, answers_long, refused_by}
 

@@ -31,8 +31,7 @@ use Rattle.bts.specs.Reported.{run_accepts, bare_ready}
 use Rattle.bts.specs.Explained.{explained_accepts}
 use Rattle.model.specs.declared.AccessSize.{AccessSize}
 use Rattle.model.specs.declared.Step.TheVariants.{Write, BlockWrite}
-use Rattle.model.specs.declared.Verdict.{Verdict}
-use Rattle.model.specs.declared.Verdict.TheVariants.{Accepted, Refused}
+use Rattle.model.specs.Verdict.{Verdict, Accepted, Refused}
 
 module _ (i : Lent) (o : Outcome) (call : o ≡ outcome i) where
   -- ---- demand 1

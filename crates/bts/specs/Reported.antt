@@ -26,7 +26,7 @@ use Rattle.model.specs.declared.Answer.{Answer}
 use Rattle.model.specs.declared.Clock.{Clock}
 use Rattle.model.specs.declared.Contents.{Contents}
 use Rattle.model.specs.declared.Refusal.{Refusal}
-use Rattle.model.specs.declared.Verdict.TheVariants.{Accepted, Refused}
+use Rattle.model.specs.Verdict.{Accepted, Refused}
 use Rattle.bts.specs.declared.Report.{Report}
 use Rattle.bts.specs.declared.Bill.{Bill}
 use Rattle.bts.specs.declared.run.Done.{Done}

@@ -7,7 +7,7 @@ mod run;
 
 ghost use Rattle.std.specs.Prelude.{◌≡◌};
 ghost use Rattle.model.specs.Outcome.{verdict, outcome_by, outcome};
-ghost use Rattle.model.specs.declared.Verdict.TheVariants.{Accepted};
+ghost use Rattle.model.specs.Verdict.{Accepted};
 ghost use Rattle.model.specs.Tariff.{tariff_verdict, bill_by, bill};
 ghost use Rattle.model.specs.Preview.{preview_verdict, preview_by, preview};
 ghost use Rattle.model.specs.Grounds.{grounds_verdict, explain_by, explain};
@@ -16,7 +16,7 @@ ghost use Rattle.bts.specs.Reported.{reported, reported_bill, reported_preview};
 ghost use Rattle.bts.specs.Explained.{reported_grounds};
 
 use examine::{examine_grounds, examine_tariff};
-use model::{BOARD_LENGTH, Lengths, Verdict};
+use model::{BOARD_LENGTH, Lengths};
 use records::sheet;
 
 // What a run gives back: 0, the number of records and the total; or the refusal's number and index, and 0.
@@ -111,8 +111,8 @@ pub fn bts_run(
     };
     let verdict = examine::examine(sheet, board, store, bios, rom, answers, lengths);
     match verdict {
-        Verdict::Accepted => run_accepted(sheet, board, store, bios, rom, answers, lengths),
-        Verdict::Refused(refusal) => Report {
+        Ok(()) => run_accepted(sheet, board, store, bios, rom, answers, lengths),
+        Err(refusal) => Report {
             number: examine::refusal_number(refusal),
             index: examine::refusal_index(refusal) as u32,
             total: 0,
@@ -169,10 +169,10 @@ fn bill_examined(
         sheet, board, store, bios, rom, answers, shares, lengths, rate,
     );
     match verdict {
-        Verdict::Accepted => bill_accepted(
+        Ok(()) => bill_accepted(
             sheet, board, store, bios, rom, answers, shares, lengths, rate,
         ),
-        Verdict::Refused(refusal) => Bill {
+        Err(refusal) => Bill {
             number: examine::refusal_number(refusal),
             index: examine::refusal_index(refusal) as u32,
             total: 0,
@@ -260,10 +260,8 @@ fn explain_examined(
 {
     let verdict = examine_grounds(sheet, board, store, bios, rom, answers, grounds, lengths);
     match verdict {
-        Verdict::Accepted => explain_accepted(
-            sheet, board, store, bios, rom, answers, grounds, lengths,
-        ),
-        Verdict::Refused(refusal) => Report {
+        Ok(()) => explain_accepted(sheet, board, store, bios, rom, answers, grounds, lengths),
+        Err(refusal) => Report {
             number: examine::refusal_number(refusal),
             index: examine::refusal_index(refusal) as u32,
             total: 0,
@@ -336,8 +334,8 @@ fn preview_examined(sheet: &[u8], board: &[u8], answers: &mut [u8]) -> Report
 {
     let verdict = examine::examine_preview(sheet, board, answers);
     match verdict {
-        Verdict::Accepted => preview_accepted(sheet, board, answers),
-        Verdict::Refused(refusal) => Report {
+        Ok(()) => preview_accepted(sheet, board, answers),
+        Err(refusal) => Report {
             number: examine::refusal_number(refusal),
             index: examine::refusal_index(refusal) as u32,
             total: 0,

@@ -383,7 +383,7 @@ pub struct Answer {
 
 // The refusals, in the order in which they are looked for; a faulty record's holds its index. The first seven are the run's,
 // the last is the tariff's (W-202).
-#[derive(Clone, Copy)]
+#[derive(Clone, Copy, Debug, PartialEq, Eq)]
 pub enum Refusal {
     BadMark,
     BadVersion,
@@ -393,10 +393,4 @@ pub enum Refusal {
     ShortAnswers,
     FaultyRecord(usize),
     BadRate,
-}
-
-#[derive(Clone, Copy)]
-pub enum Verdict {
-    Accepted,
-    Refused(Refusal),
 }

@@ -18,8 +18,7 @@ use Rattle.model.proofs.Laws.Rows.{at_most, decides_refusal, zero_accepted}
 use Rattle.model.specs.declared.Refusal.TheVariants.{BadMark, BadVersion, BadShape, BadLengths}
 use Rattle.model.specs.declared.Refusal.TheVariants.{UnsoundBoard, ShortAnswers, FaultyRecord, BadRate}
 use Rattle.model.specs.declared.SheetRecord.{SheetRecord}
-use Rattle.model.specs.declared.Verdict.{Verdict}
-use Rattle.model.specs.declared.Verdict.TheVariants.{Accepted, Refused}
+use Rattle.model.specs.Verdict.{Verdict, Accepted, Refused}
 use Rattle.model.specs.Laws.Refusal.{FirstFault, NoFault, Table, Index, Acceptable, Untouched}
 
 -- ---- the least faulty record
