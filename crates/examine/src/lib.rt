@@ -116,7 +116,7 @@ pub fn examine_records(sheet: &[u8]) -> Result<(), Refusal>
     let n = sheet::record_count(sheet);
     let k = sheet::least_faulty(sheet, n);
     if k < n {
-        return Err(Refusal::FaultyRecord(k));
+        return Err(Refusal::FaultyRecord(k as u32));
     }
     Ok(())
 }
@@ -288,17 +288,11 @@ pub fn refusal_number(r: Refusal) -> u32
 }
 
 // The record that it names; 0 but for a faulty record.
-pub fn refusal_index(r: Refusal) -> usize
+pub fn refusal_index(r: Refusal) -> u32
     ensures { result ≡ def.refusal_index r }
 {
     match r {
-        Refusal::BadMark => 0,
-        Refusal::BadVersion => 0,
-        Refusal::BadShape => 0,
-        Refusal::BadLengths => 0,
-        Refusal::UnsoundBoard => 0,
-        Refusal::ShortAnswers => 0,
         Refusal::FaultyRecord(k) => k,
-        Refusal::BadRate => 0,
+        _ => 0,
     }
 }

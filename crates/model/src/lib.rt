@@ -391,6 +391,6 @@ pub enum Refusal {
     BadLengths,
     UnsoundBoard,
     ShortAnswers,
-    FaultyRecord(usize),
+    FaultyRecord(u32),
     BadRate,
 }
