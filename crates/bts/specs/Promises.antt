@@ -2,18 +2,18 @@
 -- `o` that `o ≡ outcome i`; that of `bts_run_tariff` says of one that was lent `t` and left `b` that `b ≡ bill t`; that of
 -- `bts_preview` says of one that was lent `q` and left `p` that `p ≡ preview q`. All that is here follows from these equations:
 -- demands 1 and 3, what a WRITE tells, what is charged, and that a preview is the run.
-use Rattle.std.specs.Prelude.{◌≡◌, refl, ◌≢◌, true, ℕ, ◌*◌, ◌≤◌, ◌<◌}
+use Rattle.std.specs.Prelude.{◌≡◌, ◌≢◌, true, ℕ, ◌*◌, ◌≤◌, ◌<◌}
 use Rattle.std.proofs.Common.{◌∙◌}
 use Rattle.model.specs.Base.{Exactly}
 use Rattle.model.specs.Sheet.{max_records, version_of, record_at, record_count, records_of, step_of}
 use Rattle.model.specs.VersionOne.{outcome₁}
 use Rattle.model.proofs.Laws.VersionOne.{version_one}
 use Rattle.model.specs.BoardBytes.{sound}
-use Rattle.model.specs.Outcome.{Lent, LentBytes, Outcome, verdict, outcome_by, outcome}
+use Rattle.model.specs.Outcome.{Lent, LentBytes, Outcome, outcome}
 use Rattle.model.specs.Alike.{AlikeSheets, AlikeBoards, Limits, Accounts, Demand3}
-use Rattle.model.specs.Tariff.{Tariffed, Billed, tariff_verdict, bill_by, bill, Bills, SameBill}
-use Rattle.model.specs.Preview.{Asked, Previewed, preview_verdict, preview_answers, preview_by, preview, AsRun}
-use Rattle.model.specs.Grounds.{Explaining, Explained, grounds_verdict, explain_by, explain, Explains, SameGrounds}
+use Rattle.model.specs.Tariff.{Tariffed, Billed, bill, Bills, SameBill}
+use Rattle.model.specs.Preview.{Asked, Previewed, preview_answers, preview, AsRun}
+use Rattle.model.specs.Grounds.{Explaining, Explained, explain, Explains, SameGrounds}
 use Rattle.model.proofs.Laws.Refusal as refusal
 use Rattle.model.specs.Laws.Refusal.{Table, Index, Acceptable, Untouched}
 use Rattle.model.proofs.Laws.Fits.{board_sound, total_fits}
@@ -26,13 +26,9 @@ use Rattle.model.proofs.Laws.Previewed as previewed
 use Rattle.model.specs.Laws.Previewed.{PreviewTable, Unwritten}
 use Rattle.model.proofs.Laws.Explained as explained
 use Rattle.model.specs.Laws.Explained.{GroundsTable, GroundsAcceptable, GroundsRoom, Untold}
-use Rattle.examine.specs.Verdicts.{ready, index_small, tariff_index_small, grounds_index_small, preview_index_small}
-use Rattle.bts.specs.Reported.{run_accepts, bare_ready}
-use Rattle.bts.specs.Explained.{explained_accepts}
+use Rattle.examine.specs.Verdicts.{few_index}
 use Rattle.model.specs.declared.AccessSize.{AccessSize}
 use Rattle.model.specs.declared.Step.TheVariants.{Write, BlockWrite}
-use Rattle.model.specs.declared.Verdict.{Verdict}
-use Rattle.model.specs.declared.Verdict.TheVariants.{Accepted, Refused}
 
 module _ (i : Lent) (o : Outcome) (call : o ≡ outcome i) where
   -- ---- demand 1
@@ -55,12 +51,7 @@ module _ (i : Lent) (o : Outcome) (call : o ≡ outcome i) where
 
   -- it fits its 32 bits
   pub few_records : o.index ≤ max_records
-  unfolding outcome
-  few_records = rw call (by_verdict (verdict i) refl)
-    where
-      by_verdict : (v : Verdict) → verdict i ≡ v → (outcome_by i v).index ≤ max_records
-      by_verdict Accepted a = (ready i a).shaped.few
-      by_verdict (Refused r) a = index_small i r a
+  few_records = rw call (few_index i.sheet (refusal.run_table i) (refusal.index i))
 
   -- a refusal gives total 0 and changes no byte
   pub refuses : o.number ≢ 0 → Untouched i o
@@ -123,12 +114,7 @@ module _ (t : Tariffed) (b : Billed) (call : b ≡ bill t) where
   tariff_index = rw call (billed.tariff_index t)
 
   pub tariff_few_records : b.run.index ≤ max_records
-  unfolding bill
-  tariff_few_records = rw call (by_verdict (tariff_verdict t) refl)
-    where
-      by_verdict : (v : Verdict) → tariff_verdict t ≡ v → (bill_by t v).run.index ≤ max_records
-      by_verdict Accepted a = (ready t.run (run_accepts t a)).shaped.few
-      by_verdict (Refused r) a = tariff_index_small t r a
+  tariff_few_records = rw call (few_index t.run.sheet (billed.tariff_table t) (billed.tariff_index t))
 
   -- a refusal gives total and charge 0 and changes no byte, the shares' among them
   pub tariff_refuses : b.run.number ≢ 0 → Unbilled t b
@@ -167,12 +153,7 @@ module _ (e : Explaining) (x : Explained) (call : x ≡ explain e) where
   grounds_index = rw call (explained.grounds_index e)
 
   pub grounds_few_records : x.run.index ≤ max_records
-  unfolding explain
-  grounds_few_records = rw call (by_verdict (grounds_verdict e) refl)
-    where
-      by_verdict : (v : Verdict) → grounds_verdict e ≡ v → (explain_by e v).run.index ≤ max_records
-      by_verdict Accepted a = (ready e.run (explained_accepts e a)).shaped.few
-      by_verdict (Refused r) a = grounds_index_small e r a
+  grounds_few_records = rw call (few_index e.run.sheet (explained.grounds_table e) (explained.grounds_index e))
 
   -- a refusal gives total 0 and changes no byte, those of the grounds among them
   pub grounds_refuses : x.run.number ≢ 0 → Untold e x
@@ -212,12 +193,7 @@ module _ (q : Asked) (p : Previewed) (call : p ≡ preview q) where
   preview_index = rw call (previewed.preview_index q)
 
   pub preview_few_records : p.index ≤ max_records
-  unfolding preview
-  preview_few_records = rw call (by_verdict (preview_verdict q) refl)
-    where
-      by_verdict : (v : Verdict) → preview_verdict q ≡ v → (preview_by q v).index ≤ max_records
-      by_verdict Accepted a = (bare_ready q a).shaped.few
-      by_verdict (Refused r) a = preview_index_small q r a
+  preview_few_records = rw call (few_index q.sheet (previewed.preview_table q) (previewed.preview_index q))
 
   -- sheet and board are as lent, and a refusal gives total 0 and changes no byte of the answers
   pub preview_leaves : Unwritten q p

@@ -6,18 +6,19 @@
 mod run;
 
 ghost use Rattle.std.specs.Prelude.{◌≡◌};
+ghost use Rattle.model.specs.Verdict.{Accepted};
 ghost use Rattle.model.specs.Outcome.{verdict, outcome_by, outcome};
-ghost use Rattle.model.specs.declared.Verdict.TheVariants.{Accepted};
-ghost use Rattle.model.specs.Tariff.{tariff_verdict, bill_by, bill};
-ghost use Rattle.model.specs.Preview.{preview_verdict, preview_by, preview};
-ghost use Rattle.model.specs.Grounds.{grounds_verdict, explain_by, explain};
+ghost use Rattle.model.specs.Tariff.{bill};
+ghost use Rattle.model.specs.Preview.{preview};
+ghost use Rattle.model.specs.Grounds.{explain};
 ghost use Rattle.examine.specs.Lent.{lending, tariffing, asking, explaining};
+ghost use Rattle.bts.specs.Told.{told, bill_for, report_of_refusal, bill_of_refusal};
 ghost use Rattle.bts.specs.Reported.{reported, reported_bill, reported_preview};
 ghost use Rattle.bts.specs.Explained.{reported_grounds};
 
 use examine::{examine_grounds, examine_tariff};
 use loads::Media;
-use model::{BOARD_LENGTH, Lengths, Verdict};
+use model::{BOARD_LENGTH, Lengths, Refusal};
 use records::sheet;
 use step::machine::Machine;
 
@@ -38,6 +39,42 @@ pub struct Bill {
     pub index: u32,
     pub total: u64,
     pub charge: u64,
+}
+
+impl Report {
+    // The bill of a run that costs so much.
+    fn billed(self, charge: u64) -> Bill
+        ensures { result ≡ bill_for self charge }
+    {
+        Bill {
+            number: self.number,
+            index: self.index,
+            total: self.total,
+            charge,
+        }
+    }
+}
+
+// A refused call is told its refusal, and no total.
+impl From<Refusal> for Report {
+    ghost from_gives = { λ refusal report. report ≡ report_of_refusal refusal };
+
+    fn from(refusal: Refusal) -> Report {
+        Report {
+            number: examine::refusal_number(refusal),
+            index: examine::refusal_index(refusal),
+            total: 0,
+        }
+    }
+}
+
+// Nor a charge.
+impl From<Refusal> for Bill {
+    ghost from_gives = { λ refusal bill. bill ≡ bill_of_refusal refusal };
+
+    fn from(refusal: Refusal) -> Bill {
+        Report::from(refusal).billed(0)
+    }
 }
 
 // Runs the records of an accepted sheet.
@@ -72,7 +109,24 @@ fn run_accepted(
     }
 }
 
+// Runs a sheet, if the examination accepts what is lent.
 #[tactic(auto, unfolding(model::specs::Outcome::outcome))]
+fn run_examined(
+    sheet: &[u8],
+    board: &mut [u8],
+    store: &mut [u8],
+    bios: &[u8],
+    rom: &[u8],
+    answers: &mut [u8],
+    lengths: Lengths,
+) -> Result<Report, Refusal>
+    ensures { reported (told report_of_refusal result) board.new store.new answers.new
+        ≡ outcome (lending sheet.now board.old store.old bios.now rom.now answers.old lengths) }
+{
+    examine::examine(sheet, board, store, bios, rom, answers, lengths)?;
+    Ok(run_accepted(sheet, board, store, bios, rom, answers, lengths))
+}
+
 pub fn bts_run(
     sheet: &[u8],
     board: &mut [u8],
@@ -102,46 +156,10 @@ pub fn bts_run(
         oam,
         sram,
     };
-    let verdict = examine::examine(sheet, board, store, bios, rom, answers, lengths);
-    match verdict {
-        Verdict::Accepted => run_accepted(sheet, board, store, bios, rom, answers, lengths),
-        Verdict::Refused(refusal) => Report {
-            number: examine::refusal_number(refusal),
-            index: examine::refusal_index(refusal) as u32,
-            total: 0,
-        },
-    }
+    run_examined(sheet, board, store, bios, rom, answers, lengths).unwrap_or_else(Report::from)
 }
 
 // The same under a tariff: the run, and then the shares of its steps, from the cycles that stand in the answers.
-fn bill_accepted(
-    sheet: &[u8],
-    board: &mut [u8],
-    store: &mut [u8],
-    bios: &[u8],
-    rom: &[u8],
-    answers: &mut [u8],
-    shares: &mut [u8],
-    lengths: Lengths,
-    rate: u32,
-) -> Bill
-    requires { tariff_verdict (tariffing (lending sheet.now board.old store.old bios.now rom.now answers.old lengths)
-        shares.old rate) ≡ Accepted }
-    ensures { reported_bill result board.new store.new answers.new shares.new
-        ≡ bill_by (tariffing (lending sheet.now board.old store.old bios.now
-        rom.now answers.old lengths) shares.old rate) Accepted }
-{
-    let report = run_accepted(sheet, board, store, bios, rom, answers, lengths);
-    tariff::put_shares(answers, report.index as usize, report.total, rate, shares);
-    Bill {
-        number: report.number,
-        index: report.index,
-        total: report.total,
-        charge: tariff::charge(report.total, rate),
-    }
-}
-
-// The same from the examination on: an accepted sheet is run and billed, a refused one is told.
 #[tactic(auto, unfolding(model::specs::Tariff::bill))]
 fn bill_examined(
     sheet: &[u8],
@@ -153,25 +171,17 @@ fn bill_examined(
     shares: &mut [u8],
     lengths: Lengths,
     rate: u32,
-) -> Bill
-    ensures { reported_bill result board.new store.new answers.new shares.new
+) -> Result<Bill, Refusal>
+    ensures { reported_bill (told bill_of_refusal result) board.new store.new answers.new shares.new
         ≡ bill (tariffing (lending sheet.now board.old store.old bios.now
         rom.now answers.old lengths) shares.old rate) }
 {
-    let verdict = examine_tariff(
+    examine_tariff(
         sheet, board, store, bios, rom, answers, shares, lengths, rate,
-    );
-    match verdict {
-        Verdict::Accepted => bill_accepted(
-            sheet, board, store, bios, rom, answers, shares, lengths, rate,
-        ),
-        Verdict::Refused(refusal) => Bill {
-            number: examine::refusal_number(refusal),
-            index: examine::refusal_index(refusal) as u32,
-            total: 0,
-            charge: 0,
-        },
-    }
+    )?;
+    let report = run_accepted(sheet, board, store, bios, rom, answers, lengths);
+    tariff::put_shares(answers, report.index as usize, report.total, rate, shares);
+    Ok(report.billed(tariff::charge(report.total, rate)))
 }
 
 pub fn bts_run_tariff(
@@ -209,33 +219,11 @@ pub fn bts_run_tariff(
     bill_examined(
         sheet, board, store, bios, rom, answers, shares, lengths, rate,
     )
+    .unwrap_or_else(Bill::from)
 }
 
 // The same with the grounds of each step's price: the run, and then the grounds, from the clock that it began with and from its
 // answers.
-fn explain_accepted(
-    sheet: &[u8],
-    board: &mut [u8],
-    store: &mut [u8],
-    bios: &[u8],
-    rom: &[u8],
-    answers: &mut [u8],
-    grounds: &mut [u8],
-    lengths: Lengths,
-) -> Report
-    requires { grounds_verdict (explaining (lending sheet.now board.old store.old bios.now rom.now answers.old
-        lengths) grounds.old) ≡ Accepted }
-    ensures { reported_grounds result board.new store.new answers.new grounds.new
-        ≡ explain_by (explaining (lending sheet.now board.old store.old bios.now
-        rom.now answers.old lengths) grounds.old) Accepted }
-{
-    let clock = board::load_clock(board);
-    let report = run_accepted(sheet, board, store, bios, rom, answers, lengths);
-    grounds::put_grounds(sheet, report.index as usize, clock, answers, grounds);
-    report
-}
-
-// The same from the examination on: an accepted sheet is run and its grounds are told, a refused one is told.
 #[tactic(auto, unfolding(model::specs::Grounds::explain))]
 fn explain_examined(
     sheet: &[u8],
@@ -246,22 +234,16 @@ fn explain_examined(
     answers: &mut [u8],
     grounds: &mut [u8],
     lengths: Lengths,
-) -> Report
-    ensures { reported_grounds result board.new store.new answers.new grounds.new
+) -> Result<Report, Refusal>
+    ensures { reported_grounds (told report_of_refusal result) board.new store.new answers.new grounds.new
         ≡ explain (explaining (lending sheet.now board.old store.old bios.now
         rom.now answers.old lengths) grounds.old) }
 {
-    let verdict = examine_grounds(sheet, board, store, bios, rom, answers, grounds, lengths);
-    match verdict {
-        Verdict::Accepted => explain_accepted(
-            sheet, board, store, bios, rom, answers, grounds, lengths,
-        ),
-        Verdict::Refused(refusal) => Report {
-            number: examine::refusal_number(refusal),
-            index: examine::refusal_index(refusal) as u32,
-            total: 0,
-        },
-    }
+    examine_grounds(sheet, board, store, bios, rom, answers, grounds, lengths)?;
+    let clock = board::load_clock(board);
+    let report = run_accepted(sheet, board, store, bios, rom, answers, lengths);
+    grounds::put_grounds(sheet, report.index as usize, clock, answers, grounds);
+    Ok(report)
 }
 
 pub fn bts_run_grounds(
@@ -295,16 +277,19 @@ pub fn bts_run_grounds(
         oam,
         sram,
     };
-    explain_examined(sheet, board, store, bios, rom, answers, grounds, lengths)
+    explain_examined(sheet, board, store, bios, rom, answers, grounds, lengths).unwrap_or_else(
+        Report::from,
+    )
 }
 
 // The price of an accepted sheet: a run over no memories on a copy of the board, of whose values only those stay that the clock
 // tells. What the other columns show, the clock tells.
-fn preview_accepted(sheet: &[u8], board: &[u8], answers: &mut [u8]) -> Report
-    requires { preview_verdict (asking sheet.now board.now answers.old) ≡ Accepted }
-    ensures { reported_preview result sheet.now board.now answers.new
-        ≡ preview_by (asking sheet.now board.now answers.old) Accepted }
+#[tactic(auto, unfolding(model::specs::Preview::preview))]
+fn preview_examined(sheet: &[u8], board: &[u8], answers: &mut [u8]) -> Result<Report, Refusal>
+    ensures { reported_preview (told report_of_refusal result) sheet.now board.now answers.new
+        ≡ preview (asking sheet.now board.now answers.old) }
 {
+    examine::examine_preview(sheet, board, answers)?;
     let mut spare = [0u8; BOARD_LENGTH];
     spare.copy_from_slice(board);
     let mut store = [0u8; 0];
@@ -318,29 +303,12 @@ fn preview_accepted(sheet: &[u8], board: &[u8], answers: &mut [u8]) -> Report
         Lengths::none(),
     );
     preview::put_values(sheet, report.index as usize, answers);
-    report
-}
-
-// The same from the examination on: an accepted sheet is priced, a refused one is told.
-#[tactic(auto, unfolding(model::specs::Preview::preview))]
-fn preview_examined(sheet: &[u8], board: &[u8], answers: &mut [u8]) -> Report
-    ensures { reported_preview result sheet.now board.now answers.new
-        ≡ preview (asking sheet.now board.now answers.old) }
-{
-    let verdict = examine::examine_preview(sheet, board, answers);
-    match verdict {
-        Verdict::Accepted => preview_accepted(sheet, board, answers),
-        Verdict::Refused(refusal) => Report {
-            number: examine::refusal_number(refusal),
-            index: examine::refusal_index(refusal) as u32,
-            total: 0,
-        },
-    }
+    Ok(report)
 }
 
 // At its end sheet and board are as they were, and the contract says so.
 pub fn bts_preview(sheet: &[u8], board: &[u8], answers: &mut [u8]) -> Report
     ensures { reported_preview result sheet.now board.now answers.new ≡ preview (asking sheet.now board.now answers.old) }
 {
-    preview_examined(sheet, board, answers)
+    preview_examined(sheet, board, answers).unwrap_or_else(Report::from)
 }

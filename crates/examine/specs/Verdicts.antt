@@ -1,38 +1,28 @@
 -- The examination in parts, as laws: a part that refuses decides the verdict, one that accepts leaves it to the rest; and
 -- what an accepted sheet's tests say of its numbers.
-use Rattle.std.specs.Prelude.{◌≡◌, refl, Bool, true, false, not, ◌&&◌, List, [], ◌++◌, ℕ, ◌*◌, ◌≤◌, ◌<◌, length, eqb, ltb, leb}
+use Rattle.std.specs.Prelude.{◌≡◌, ◌≢◌, Bool, true, false, not, ◌&&◌, List, ◌++◌, ℕ, ◌*◌, ◌≤◌, ◌<◌, length, eqb, ltb, leb}
 use Rattle.std.proofs.Common.{sym, ap, ◌∙◌, arith, eqb-true, leb-true, lt-ltb, le-ltb}
 use Rattle.std.proofs.lemmas.Bool.{not-true, not-false}
 use Rattle.model.specs.Base.{AllBytes}
 use Rattle.model.specs.Memory.{lengths_sum}
-use Rattle.model.specs.Sheet.{is_shaped, max_records, record_start, record_count, records_from, least_faulty}
+use Rattle.model.specs.Sheet.{latest_version, knows, is_marked, version_of, is_shaped, max_records, record_start, record_count, records_from, least_faulty}
 use Rattle.model.specs.BoardBytes.{board_length, answer_length, clock_of}
 use Rattle.model.specs.Outcome.{Lent, Row, row, by_row, first_row, sheet_rows, lengths_rows, board_rows, answers_rows}
-use Rattle.model.specs.Outcome.{room_rows, fault_index, records_rows, second_rows, verdict_number}
-use Rattle.model.specs.Outcome.{sizes_fit, verdict, refusal_index, Outcome, outcome_by, outcome}
+use Rattle.model.specs.Outcome.{room_rows, fault_index, records_rows, sizes_fit, verdict}
 use Rattle.model.specs.Laws.Places.{sizes_small, Sized}
 use Rattle.model.proofs.Laws.Places.{small_sized}
-use Rattle.model.specs.Tariff.{share_length, Tariffed, rate_rows, tariff_verdict}
-use Rattle.model.specs.Grounds.{grounds_length, Explaining, grounds_verdict}
-use Rattle.model.specs.Preview.{Asked, no_memories, lent_with, preview_verdict}
-use Rattle.model.proofs.Laws.Choice.{parts, or_true_right, or-false}
+use Rattle.model.proofs.Laws.Choice.{by_test, eqb_ne, parts, or_true_right, or-false}
 use Rattle.model.specs.Laws.Sound.{SoundClock}
 use Rattle.model.proofs.Laws.Codec.{sound_formed}
-use Rattle.model.specs.Laws.Rows.{Decides, Rising, or_else_of}
-use Rattle.model.proofs.Laws.Rows.{row_holds, row_passes, first_append, accepts_none, decided}
-use Rattle.model.specs.Laws.Refusal.{NoFault, FirstFault, Acceptable, Index}
-use Rattle.model.proofs.Laws.Refusal.{accepted_acceptable, table, index}
+use Rattle.model.specs.Laws.Rows.{TableOf, or_else_of}
+use Rattle.model.proofs.Laws.Rows.{row_holds, row_passes, first_append, accepts_none}
+use Rattle.model.specs.Laws.Refusal.{NoFault, Acceptable, Index}
+use Rattle.model.proofs.Laws.Refusal.{accepted_acceptable}
 use Rattle.model.proofs.Laws.Fits.{sound_clock}
-use Rattle.model.proofs.Laws.Second.{fault_told}
-use Rattle.model.proofs.Laws.Billed as billed
-use Rattle.model.proofs.Laws.Previewed.{bare_verdict}
-use Rattle.model.proofs.Laws.Explained as explained
 use Rattle.model.specs.declared.Lengths.{Lengths}
 use Rattle.model.specs.declared.Refusal.{Refusal}
-use Rattle.model.specs.declared.Refusal.TheVariants.{BadMark, BadVersion, BadShape, BadLengths}
-use Rattle.model.specs.declared.Refusal.TheVariants.{UnsoundBoard, ShortAnswers, FaultyRecord, BadRate}
-use Rattle.model.specs.declared.Verdict.{Verdict}
-use Rattle.model.specs.declared.Verdict.TheVariants.{Accepted, Refused}
+use Rattle.model.specs.declared.Refusal.TheVariants.{ShortAnswers, FaultyRecord}
+use Rattle.model.specs.Verdict.{Verdict, Accepted, Refused}
 use Rattle.examine.specs.Lent.{lending}
 
 -- the verdict on all that is lent, in the order of the functions' parameters
@@ -154,53 +144,35 @@ ready i e =
 pub sheet_shaped : (s : List ℕ) (more : List Row) {v : Verdict} → v ≡ first_row (sheet_rows s ++ more) → v ≡ Accepted → Shaped s
 sheet_shaped s more e a = shaped s (not-false (is_shaped s) (accepts_none (sheet_rows s ++ more) (sym e ∙ a)).1.1.0)
 
--- ---- a refusal's index fits: it is 0 or that of a record
+-- ---- the index of a call fits: it is 0, that of a record, or the number of records
 
-small_index : (r : Refusal) → ((k : ℕ) → r ≡ FaultyRecord k → k ≤ max_records) → refusal_index r ≤ max_records
-small_index BadMark h = omega arith
-small_index BadVersion h = omega arith
-small_index BadShape h = omega arith
-small_index BadLengths h = omega arith
-small_index UnsoundBoard h = omega arith
-small_index ShortAnswers h = omega arith
-small_index (FaultyRecord k) h = h k refl
-small_index BadRate h = omega arith
+-- of a table that begins with the sheet's rows: a number that is none of theirs is that of a sheet with its shape
+module _ (s : List ℕ) {more : List Row} {number : ℕ} (t : TableOf (sheet_rows s ++ more) number) where
+  marked : number ≢ 1 → not (is_marked s) ≡ false
+  marked h = by_test (not (is_marked s)) (λ e. absurd (h ((t.row 0 (omega arith)).1 e))) (λ e. e)
 
--- the faulty record of a sheet that has its shape
-few_faulty : (s : List ℕ) (number index : ℕ) → Index s number index → not (is_shaped s) ≡ false → number ≡ 7 → index ≤ max_records
-few_faulty s number index x e seven =
-    let f : FirstFault s index = x.faulty_record seven in
-    omega (arith, f.within, (shaped s (not-false (is_shaped s) e)).few)
+  versioned : number ≢ 1 → number ≢ 2 → not (knows latest_version (version_of s)) ≡ false
+  versioned h g =
+      by_test (not (knows latest_version (version_of s)))
+      (λ e. absurd (g ((t.row 1 (omega arith)).1 (marked h, e)))) (λ e. e)
 
-pub index_small : (i : Lent) (r : Refusal) → verdict i ≡ Refused r → refusal_index r ≤ max_records
-unfolding outcome
-index_small i r e =
-    small_index r λ k z.
-    let o : outcome i ≡ outcome_by i (Refused (FaultyRecord k)) = ap (outcome_by i) (e ∙ ap (λ (q : Refusal). Refused q) z) in
-    let seven : (outcome i).number ≡ 7 = ap (λ (x : Outcome). x.number) o in
-    rw (ap (λ (x : Outcome). x.index) o)
-    at (few_faulty i.sheet _ _ (index i) ((table i).records.0 seven).1.1.0 seven)
+  pub told_shaped : number ≢ 1 → number ≢ 2 → number ≢ 3 → Shaped s
+  told_shaped h g f =
+      shaped s
+      (not-false (is_shaped s)
+      (by_test (not (is_shaped s))
+      (λ e. absurd (f ((t.row 2 (omega arith)).1 (marked h, (versioned h g, e))))) (λ e. e)))
 
--- that of a table with a second buffer, with whatever rows behind it
-second_small : (i : Lent) (each second : ℕ) (more : List Row) (r : Refusal) → Rising 0 (second_rows i each second ++ more)
-    → first_row (second_rows i each second ++ more) ≡ Refused r → refusal_index r ≤ max_records
-second_small i each second more r rising e =
-    small_index r λ k z.
-    let rs = second_rows i each second ++ more in
-    let v : first_row rs ≡ Refused (FaultyRecord k) = e ∙ ap (λ (q : Refusal). Refused q) z in
-    let d : Decides rs 6 = (decided 0 rs rising 6 (omega arith)).0 (ap verdict_number v) in
-    let f : FirstFault i.sheet k = rw v at (fault_told i each second more d) in
-    omega (arith, f.within, (shaped i.sheet (not-false (is_shaped i.sheet) d.1.1.0)).few)
-
-pub tariff_index_small : (t : Tariffed) (r : Refusal) → tariff_verdict t ≡ Refused r → refusal_index r ≤ max_records
-unfolding tariff_verdict
-tariff_index_small t r e =
-    second_small t.run share_length (length t.shares) (rate_rows t.rate) r (billed.rising t) e
-
-pub grounds_index_small : (e : Explaining) (r : Refusal) → grounds_verdict e ≡ Refused r → refusal_index r ≤ max_records
-unfolding grounds_verdict
-grounds_index_small e r v = second_small e.run grounds_length (length e.grounds) [] r (explained.rising e) v
-
--- a preview's is that of a run over no memories
-pub preview_index_small : (q : Asked) (r : Refusal) → preview_verdict q ≡ Refused r → refusal_index r ≤ max_records
-preview_index_small q r e = index_small (lent_with q no_memories) r (bare_verdict q ∙ e)
+  pub few_index : {index : ℕ} → Index s number index → index ≤ max_records
+  few_index x =
+      by_test (eqb number 0)
+      (λ e.
+      let z = eqb-true number 0 e in
+      let k = told_shaped (λ h. omega (arith, z, h)) (λ h. omega (arith, z, h)) (λ h. omega (arith, z, h)) in
+      omega (arith, x.accepted z, k.few))
+      (λ e. by_test (eqb number 7)
+      (λ f.
+      let z = eqb-true number 7 f in
+      let k = told_shaped (λ h. omega (arith, z, h)) (λ h. omega (arith, z, h)) (λ h. omega (arith, z, h)) in
+      omega (arith, (x.faulty_record z).within, k.few))
+      (λ f. omega (arith, x.refused (eqb_ne number 0 e) (eqb_ne number 7 f))))

@@ -8,12 +8,11 @@ ghost use Rattle.model.specs.Outcome as def;
 ghost use Rattle.model.specs.Tariff as tariff;
 ghost use Rattle.model.specs.Preview as preview;
 ghost use Rattle.model.specs.Grounds as reasons;
-ghost use Rattle.model.specs.Laws.Rows.{or_else_of};
 ghost use Rattle.examine.specs.Lent.{lending, tariffing, asking, explaining};
 ghost use Rattle.examine.specs.Verdicts.{Shaped, RoomAsked, Examined, rest_rows};
 
 use model::{
-    ANSWER_LENGTH, FIRST_VERSION, LATEST_VERSION, Lengths, MAX_RATE, Refusal, SHARE_LENGTH, Verdict,
+    ANSWER_LENGTH, FIRST_VERSION, LATEST_VERSION, Lengths, MAX_RATE, Refusal, SHARE_LENGTH,
 };
 use records::sheet;
 
@@ -48,83 +47,88 @@ fn lengths_fit(lengths: Lengths, store: usize, bios: usize, rom: usize) -> bool
 // ---- the rows of the table, in parts: what another operation examines is another choice of these
 
 // Mark, version and shape.
-pub fn examine_sheet(sheet: &[u8]) -> Verdict
+pub fn examine_sheet(sheet: &[u8]) -> Result<(), Refusal>
     ensures { result ≡ def.first_row (def.sheet_rows sheet.now) }
 {
     if !sheet::is_marked(sheet) {
-        return Verdict::Refused(Refusal::BadMark);
+        return Err(Refusal::BadMark);
     }
     let version = sheet::version_of(sheet);
     if (version < FIRST_VERSION) | (version > LATEST_VERSION) {
-        return Verdict::Refused(Refusal::BadVersion);
+        return Err(Refusal::BadVersion);
     }
     if !sheet::is_shaped(sheet) {
-        return Verdict::Refused(Refusal::BadShape);
+        return Err(Refusal::BadShape);
     }
-    Verdict::Accepted
+    Ok(())
 }
 
-pub fn examine_lengths(lengths: Lengths, store: usize, bios: usize, rom: usize) -> Verdict
+pub fn examine_lengths(
+    lengths: Lengths,
+    store: usize,
+    bios: usize,
+    rom: usize,
+) -> Result<(), Refusal>
     ensures { result ≡ def.first_row (def.lengths_rows lengths store bios rom) }
 {
     if !lengths_fit(lengths, store, bios, rom) {
-        return Verdict::Refused(Refusal::BadLengths);
+        return Err(Refusal::BadLengths);
     }
-    Verdict::Accepted
+    Ok(())
 }
 
-pub fn examine_board(board: &[u8]) -> Verdict
+pub fn examine_board(board: &[u8]) -> Result<(), Refusal>
     ensures { result ≡ def.first_row (def.board_rows board.now) }
 {
     if !board::is_sound(board) {
-        return Verdict::Refused(Refusal::UnsoundBoard);
+        return Err(Refusal::UnsoundBoard);
     }
-    Verdict::Accepted
+    Ok(())
 }
 
 // Room for the answers of n records.
-pub fn examine_answers(n: usize, answers: usize) -> Verdict
+pub fn examine_answers(n: usize, answers: usize) -> Result<(), Refusal>
     requires { n ≤ max_records }
     ensures { result ≡ def.first_row (def.answers_rows n answers) }
 {
     if answers < ANSWER_LENGTH * n {
-        return Verdict::Refused(Refusal::ShortAnswers);
+        return Err(Refusal::ShortAnswers);
     }
-    Verdict::Accepted
+    Ok(())
 }
 
 // Room for the answers of n records, and for `each` bytes a record in a second buffer.
-pub fn examine_room(n: usize, answers: usize, each: usize, second: usize) -> Verdict
+pub fn examine_room(n: usize, answers: usize, each: usize, second: usize) -> Result<(), Refusal>
     requires { RoomAsked n each }
     ensures { result ≡ def.first_row (def.room_rows n answers each second) }
 {
     if second < each * n {
-        return Verdict::Refused(Refusal::ShortAnswers);
+        return Err(Refusal::ShortAnswers);
     }
     examine_answers(n, answers)
 }
 
 // The records of a sheet that has its shape.
-pub fn examine_records(sheet: &[u8]) -> Verdict
+pub fn examine_records(sheet: &[u8]) -> Result<(), Refusal>
     requires { Shaped sheet.now }
     ensures { result ≡ def.first_row (def.records_rows sheet.now) }
 {
     let n = sheet::record_count(sheet);
     let k = sheet::least_faulty(sheet, n);
     if k < n {
-        return Verdict::Refused(Refusal::FaultyRecord(k));
+        return Err(Refusal::FaultyRecord(k as u32));
     }
-    Verdict::Accepted
+    Ok(())
 }
 
 // The rate of a tariff.
-pub fn examine_rate(rate: u32) -> Verdict
+pub fn examine_rate(rate: u32) -> Result<(), Refusal>
     ensures { result ≡ def.first_row (tariff.rate_rows rate) }
 {
     if (rate == 0) | (rate > MAX_RATE) {
-        return Verdict::Refused(Refusal::BadRate);
+        return Err(Refusal::BadRate);
     }
-    Verdict::Accepted
+    Ok(())
 }
 
 // ---- the tables
@@ -137,30 +141,21 @@ pub fn examine_lent(
     store: usize,
     bios: usize,
     rom: usize,
-) -> Verdict
+) -> Result<(), Refusal>
     ensures { result ≡ def.first_row (def.sheet_rows sheet.now
         ++ (def.lengths_rows lengths store bios rom ++ def.board_rows board.now)) }
 {
-    let shape = examine_sheet(sheet);
-    let Verdict::Accepted = shape else {
-        return shape;
-    };
-    let sizes = examine_lengths(lengths, store, bios, rom);
-    let Verdict::Accepted = sizes else {
-        return sizes;
-    };
+    examine_sheet(sheet)?;
+    examine_lengths(lengths, store, bios, rom)?;
     examine_board(board)
 }
 
 // The rows with which the table of a run and of a preview ends: room for the answers, and the records. The sheet has its shape.
-fn examine_rest(sheet: &[u8], answers: usize) -> Verdict
+fn examine_rest(sheet: &[u8], answers: usize) -> Result<(), Refusal>
     requires { Shaped sheet.now }
     ensures { result ≡ def.first_row (rest_rows sheet.now answers) }
 {
-    let room = examine_answers(sheet::record_count(sheet), answers);
-    let Verdict::Accepted = room else {
-        return room;
-    };
+    examine_answers(sheet::record_count(sheet), answers)?;
     examine_records(sheet)
 }
 
@@ -174,42 +169,23 @@ pub fn examine(
     rom: &[u8],
     answers: &[u8],
     lengths: Lengths,
-) -> Verdict
+) -> Result<(), Refusal>
     ensures { Examined sheet.now board.now store.now
         bios.now rom.now answers.now lengths result }
 {
-    let lent = examine_lent(sheet, board, lengths, store.len(), bios.len(), rom.len());
-    let Verdict::Accepted = lent else {
-        return lent;
-    };
+    examine_lent(sheet, board, lengths, store.len(), bios.len(), rom.len())?;
     examine_rest(sheet, answers.len())
 }
 
 // The first row of a preview's table that holds: the run's without that of the lengths.
 #[tactic(auto, unfolding(model::specs::Preview::preview_verdict))]
-pub fn examine_preview(sheet: &[u8], board: &[u8], answers: &[u8]) -> Verdict
+pub fn examine_preview(sheet: &[u8], board: &[u8], answers: &[u8]) -> Result<(), Refusal>
     ensures { result ≡ preview.preview_verdict (asking sheet.now board.now answers.now) }
 {
-    let shape = examine_sheet(sheet);
-    let Verdict::Accepted = shape else {
-        return shape;
-    };
-    let state = examine_board(board);
-    let Verdict::Accepted = state else {
-        return state;
-    };
+    examine_sheet(sheet)?;
+    examine_board(board)?;
     let room = answers.len();
     examine_rest(sheet, room)
-}
-
-// One verdict, or where it accepts another.
-fn or_else(first: Verdict, second: Verdict) -> Verdict
-    ensures { result ≡ or_else_of first second }
-{
-    match first {
-        Verdict::Accepted => second,
-        Verdict::Refused(refusal) => Verdict::Refused(refusal),
-    }
 }
 
 // The first row of the table of a run with a second buffer, which has `each` bytes a record.
@@ -223,20 +199,14 @@ fn examine_second(
     lengths: Lengths,
     each: usize,
     second: usize,
-) -> Verdict
+) -> Result<(), Refusal>
     requires { each ≤ 0xFFFF }
     ensures { result ≡ def.first_row (def.second_rows (lending sheet.now board.now store.now
         bios.now rom.now answers.now lengths) each second) }
 {
-    let lent = examine_lent(sheet, board, lengths, store.len(), bios.len(), rom.len());
-    let Verdict::Accepted = lent else {
-        return lent;
-    };
+    examine_lent(sheet, board, lengths, store.len(), bios.len(), rom.len())?;
     let n = sheet::record_count(sheet);
-    let room = examine_room(n, answers.len(), each, second);
-    let Verdict::Accepted = room else {
-        return room;
-    };
+    examine_room(n, answers.len(), each, second)?;
     examine_records(sheet)
 }
 
@@ -252,7 +222,7 @@ pub fn examine_tariff(
     shares: &[u8],
     lengths: Lengths,
     rate: u32,
-) -> Verdict
+) -> Result<(), Refusal>
     ensures { result ≡ tariff.tariff_verdict (tariffing (lending sheet.now board.now store.now
         bios.now rom.now answers.now lengths) shares.now rate) }
 {
@@ -269,7 +239,7 @@ pub fn examine_tariff(
         room,
     );
     let fair = examine_rate(rate);
-    or_else(run, fair)
+    run.and(fair)
 }
 
 // The first row of the table of a run with grounds that holds: the run's, with room for the grounds.
@@ -283,7 +253,7 @@ pub fn examine_grounds(
     answers: &[u8],
     grounds: &[u8],
     lengths: Lengths,
-) -> Verdict
+) -> Result<(), Refusal>
     ensures { result ≡ reasons.grounds_verdict (explaining (lending sheet.now board.now
         store.now bios.now rom.now answers.now lengths) grounds.now) }
 {
@@ -318,17 +288,11 @@ pub fn refusal_number(r: Refusal) -> u32
 }
 
 // The record that it names; 0 but for a faulty record.
-pub fn refusal_index(r: Refusal) -> usize
+pub fn refusal_index(r: Refusal) -> u32
     ensures { result ≡ def.refusal_index r }
 {
     match r {
-        Refusal::BadMark => 0,
-        Refusal::BadVersion => 0,
-        Refusal::BadShape => 0,
-        Refusal::BadLengths => 0,
-        Refusal::UnsoundBoard => 0,
-        Refusal::ShortAnswers => 0,
         Refusal::FaultyRecord(k) => k,
-        Refusal::BadRate => 0,
+        _ => 0,
     }
 }

@@ -15,6 +15,7 @@ pub mod Timing
 pub mod Step
 pub mod Sheet
 pub mod BoardBytes
+pub mod Verdict
 pub mod Outcome
 pub mod Alike
 pub mod Tariff

@@ -8,8 +8,7 @@ use Rattle.model.specs.Sheet.{record_count}
 use Rattle.model.specs.Outcome.{Lent, LentBytes, Outcome, Row, row, first_row, second_rows, ran, outcome_by, outcome}
 use Rattle.model.specs.Alike.{answer_start, cycles_from, Demand3}
 use Rattle.model.specs.declared.Refusal.TheVariants.{BadRate}
-use Rattle.model.specs.declared.Verdict.{Verdict}
-use Rattle.model.specs.declared.Verdict.TheVariants.{Accepted, Refused}
+use Rattle.model.specs.Verdict.{Verdict, Accepted, Refused}
 
 -- ---- the charge, and the shares
 

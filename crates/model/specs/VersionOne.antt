@@ -20,7 +20,7 @@ use Rattle.model.specs.declared.IsaState.TheVariants.{Arm, Thumb}
 use Rattle.model.specs.declared.Version.TheVariants.{One}
 use Rattle.model.specs.declared.SheetRecord.{SheetRecord}
 use Rattle.model.specs.declared.Refusal.TheVariants.{FaultyRecord}
-use Rattle.model.specs.declared.Verdict.{Verdict}
+use Rattle.model.specs.Verdict.{Verdict}
 use Rattle.model.specs.declared.Step.{Step}
 use Rattle.model.specs.declared.Step.TheVariants.{Read, Write, Waitcnt, Idle, Fetch, Restart, Instruction, Pc, Latch}
 

@@ -397,7 +397,7 @@ pub struct Answer {
 
 // The refusals, in the order in which they are looked for; a faulty record's holds its index. The first seven are the run's,
 // the last is the tariff's (W-202).
-#[derive(Clone, Copy)]
+#[derive(Clone, Copy, Debug, PartialEq, Eq)]
 pub enum Refusal {
     BadMark,
     BadVersion,
@@ -405,12 +405,6 @@ pub enum Refusal {
     BadLengths,
     UnsoundBoard,
     ShortAnswers,
-    FaultyRecord(usize),
+    FaultyRecord(u32),
     BadRate,
-}
-
-#[derive(Clone, Copy)]
-pub enum Verdict {
-    Accepted,
-    Refused(Refusal),
 }

@@ -28,8 +28,7 @@ use Rattle.model.proofs.Laws.Demand3.{cycles_there, alike_count, same_cycles, de
 use Rattle.model.proofs.Laws.Charge.{rounded_up, cost_fits, adds_at_most, adds_at_least}
 use Rattle.model.proofs.Laws.Charge.{shares_length, shares_add_up, share_is, cycles_further}
 use Rattle.model.specs.declared.Refusal.TheVariants.{BadRate}
-use Rattle.model.specs.declared.Verdict.{Verdict}
-use Rattle.model.specs.declared.Verdict.TheVariants.{Accepted, Refused}
+use Rattle.model.specs.Verdict.{Verdict, Accepted, Refused}
 use Rattle.model.specs.Laws.Billed.{TariffTable, Fair, SharesRoom, AllButRate, TariffAcceptable, RateAlone, Unbilled}
 
 -- ---- the table

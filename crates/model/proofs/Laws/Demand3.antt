@@ -36,7 +36,7 @@ use Rattle.model.proofs.Laws.Codec.{number_past, number_fits, flag_byte, OfWidth
 use Rattle.model.specs.declared.Clock.{Clock}
 use Rattle.model.specs.declared.Answer.{Answer}
 use Rattle.model.specs.declared.SheetRecord.{SheetRecord}
-use Rattle.model.specs.declared.Verdict.TheVariants.{Accepted}
+use Rattle.model.specs.Verdict.{Accepted}
 use Rattle.model.specs.declared.Step.{Step}
 use Rattle.model.specs.declared.Step.TheVariants.{Waitcnt, Idle, Instruction, Latch, BlockRead, BlockWrite}
 use Rattle.model.specs.declared.AccessSize.TheVariants.{Word}

@@ -31,8 +31,7 @@ use Rattle.model.proofs.Laws.Demand3.{step_there, step_is, alike_count, same_gro
 use Rattle.model.proofs.Laws.Grounds.{cycles_explained, none_unpriced, each_worth, few_grounds, grounds_fit, named_exactly}
 use Rattle.model.specs.declared.Ground.{Ground}
 use Rattle.model.specs.declared.Clock.{Clock}
-use Rattle.model.specs.declared.Verdict.{Verdict}
-use Rattle.model.specs.declared.Verdict.TheVariants.{Accepted, Refused}
+use Rattle.model.specs.Verdict.{Verdict, Accepted, Refused}
 use Rattle.model.specs.declared.Step.{Step}
 use Rattle.model.specs.declared.Step.TheVariants.{Latch}
 use Rattle.model.specs.Laws.Explained.{GroundsTable, GroundsRoom, GroundsAcceptable, Untold}

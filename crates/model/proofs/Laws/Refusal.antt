@@ -12,14 +12,13 @@ use Rattle.model.specs.Laws.Choice.{All}
 use Rattle.model.proofs.Laws.Choice.{choose, by_test}
 use Rattle.model.specs.Laws.Limits.{Faultless}
 use Rattle.model.proofs.Laws.Limits.{all_faultless, records_length}
-use Rattle.model.specs.Laws.Rows.{Decides, NoneHolds, Rising}
-use Rattle.model.proofs.Laws.Rows.{decided, undecided}
+use Rattle.model.specs.Laws.Rows.{Decides, NoneHolds, Rising, TableOf}
+use Rattle.model.proofs.Laws.Rows.{table_of, undecided}
 use Rattle.model.proofs.Laws.Rows.{at_most, decides_refusal, zero_accepted}
 use Rattle.model.specs.declared.Refusal.TheVariants.{BadMark, BadVersion, BadShape, BadLengths}
 use Rattle.model.specs.declared.Refusal.TheVariants.{UnsoundBoard, ShortAnswers, FaultyRecord, BadRate}
 use Rattle.model.specs.declared.SheetRecord.{SheetRecord}
-use Rattle.model.specs.declared.Verdict.{Verdict}
-use Rattle.model.specs.declared.Verdict.TheVariants.{Accepted, Refused}
+use Rattle.model.specs.Verdict.{Verdict, Accepted, Refused}
 use Rattle.model.specs.Laws.Refusal.{FirstFault, NoFault, Table, Index, Acceptable, Untouched}
 
 -- ---- the least faulty record
@@ -107,22 +106,23 @@ number_is : (i : Lent) → (outcome i).number ≡ verdict_number (verdict i)
 unfolding outcome
 number_is i = by_number i (verdict i)
 
-exactly_row : (i : Lent) (k n : ℕ) → k < 7 → Exactly (verdict_number (verdict i) ≡ n) (Decides (rows i) k)
-    → Exactly ((outcome i).number ≡ n) (Decides (rows i) k)
-exactly_row i k n h e = (λ x. e.0 (sym (number_is i) ∙ x), λ d. number_is i ∙ e.1 d)
+-- each number exactly when its row decides
+pub run_table : (i : Lent) → TableOf (rows i) (outcome i).number
+unfolding verdict
+run_table i = table_of (rows i) (rising i) (number_is i)
 
 pub table : (i : Lent) → Table i (outcome i)
-unfolding verdict
 table i =
+    let t = run_table i in
     record {
-      mark = exactly_row i 0 1 (lit< tt) (decided 0 (rows i) (rising i) 0 (lit< tt));
-      version = exactly_row i 1 2 (lit< tt) (decided 0 (rows i) (rising i) 1 (lit< tt));
-      shape = exactly_row i 2 3 (lit< tt) (decided 0 (rows i) (rising i) 2 (lit< tt));
-      lengths = exactly_row i 3 4 (lit< tt) (decided 0 (rows i) (rising i) 3 (lit< tt));
-      board = exactly_row i 4 5 (lit< tt) (decided 0 (rows i) (rising i) 4 (lit< tt));
-      answers = exactly_row i 5 6 (lit< tt) (decided 0 (rows i) (rising i) 5 (lit< tt));
-      records = exactly_row i 6 7 (lit< tt) (decided 0 (rows i) (rising i) 6 (lit< tt));
-      none = (λ x. (undecided (rows i)).0 (sym (number_is i) ∙ x), λ d. number_is i ∙ (undecided (rows i)).1 d);
+      mark = t.row 0 (lit< tt);
+      version = t.row 1 (lit< tt);
+      shape = t.row 2 (lit< tt);
+      lengths = t.row 3 (lit< tt);
+      board = t.row 4 (lit< tt);
+      answers = t.row 5 (lit< tt);
+      records = t.row 6 (lit< tt);
+      none = t.none;
     }
 
 -- a run makes none but these seven

@@ -8,8 +8,7 @@ use Rattle.model.proofs.Laws.Choice.{by_test, if_true, if_false}
 use Rattle.model.specs.declared.Refusal.{Refusal}
 use Rattle.model.specs.declared.Refusal.TheVariants.{BadMark, BadVersion, BadShape, BadLengths}
 use Rattle.model.specs.declared.Refusal.TheVariants.{UnsoundBoard, ShortAnswers, FaultyRecord, BadRate}
-use Rattle.model.specs.declared.Verdict.{Verdict}
-use Rattle.model.specs.declared.Verdict.TheVariants.{Accepted, Refused}
+use Rattle.model.specs.Verdict.{Verdict, Accepted, Refused}
 use Rattle.model.specs.Laws.Rows.{Decides, NoneHolds, refusal_at, number_at, Rising, or_else_of, UpTo, TableOf}
 
 -- ---- what a row says

@@ -2,12 +2,12 @@
 -- Tables of refusals, whatever their rows: the verdict is that of the first row that holds. A table whose numbers rise is
 -- decided by row k exactly when the verdict has row k's number, and no row holds exactly when it has number 0.
 use Rattle.std.specs.Prelude.{◌≡◌, true, false, List, [], ◌∷◌, ℕ, zero, suc, ◌≤◌, ◌<◌, length}
+use Rattle.std.specs.Result.{result_and}
 use Rattle.model.specs.Base.{Exactly}
 use Rattle.model.specs.Outcome.{Row, refusal_number}
 use Rattle.model.specs.declared.Refusal.{Refusal}
 use Rattle.model.specs.declared.Refusal.TheVariants.{BadMark}
-use Rattle.model.specs.declared.Verdict.{Verdict}
-use Rattle.model.specs.declared.Verdict.TheVariants.{Accepted, Refused}
+use Rattle.model.specs.Verdict.{Verdict}
 
 -- row k holds, and no row before it does
 abbrev pub Decides : List Row → ℕ → Type 0
@@ -33,10 +33,9 @@ abbrev pub Rising : ℕ → List Row → Type 0
 Rising n [] = Unit {0}
 Rising n (r ∷ rs) = (n < refusal_number r.refusal) × Rising (refusal_number r.refusal) rs
 
--- a table in two parts
+-- a table in two parts: std's `and`
 abbrev pub or_else_of : Verdict → Verdict → Verdict
-or_else_of Accepted v = v
-or_else_of (Refused r) v = Refused r
+or_else_of v w = result_and v w
 
 -- no number of the table is above n
 abbrev pub UpTo : ℕ → List Row → Type 0
