@@ -1,6 +1,7 @@
 -- A word that stands in one memory: its number by the part that was lent, its low bytes by their mask, and the aligned load
 -- that they are; and an aligned load where nothing is lent. Assumes nothing.
 use Rattle.std.proofs.Common.{◌≡◌, ℕ, zero, suc, ◌+◌, ◌-◌, ◌/◌, ◌%◌, ◌^◌, ◌<◌, ◌≤◌, true, false, ltb, List, [], ◌∷◌, length, take, drop, sym, refl, ap, ◌∙◌, add_assoc, zero-add, arith, get_or-drop, get_or-take, ltb-false}
+use Rattle.std.specs.Prelude.{Option, Some}
 use mathlib.Core.Bool.{false≢true}
 use native.Mathlib.Nat.{zero-mod}
 use lib.Bits.{bit_and, and_mask}
@@ -21,8 +22,6 @@ use Rattle.model.specs.declared.Part.{Part}
 use Rattle.model.specs.declared.Target.{Target}
 use Rattle.model.specs.declared.Target.TheVariants.{Unused, SystemRom, GamePakRom, Plain, Video, Sram}
 use Rattle.loads.specs.Words.{word_at, word_from, reads_zero}
-use Rattle.loads.specs.declared.Loaded.{Loaded}
-use Rattle.loads.specs.declared.Loaded.TheVariants as loaded
 
 -- the number in bytes of the k that were lent from a on
 pub number_part : (n : ℕ) (xs : List ℕ) (a k i : ℕ) → i + n ≤ k → number n (take k (drop a xs)) i ≡ number n xs (a + i)
@@ -42,10 +41,10 @@ pub record Stands (xs : List ℕ) (base n i w : ℕ) : Type 0 where
   pub all : i + 4 ≤ n
   pub word : w ≡ number 4 xs (base + i)
 
-found : (xs : List ℕ) (base n i : ℕ) {w : ℕ} → word_at xs base n i ≡ loaded.Word w → Stands xs base n i w
+found : (xs : List ℕ) (base n i : ℕ) {w : ℕ} → word_at xs base n i ≡ Some w → Stands xs base n i w
 unfolding word_at
 found xs base n i {w} =
-    choose (λ (r : Loaded). r ≡ loaded.Word w → Stands xs base n i w) (ltb n (i + 4))
+    choose (λ (r : Option ℕ). r ≡ Some w → Stands xs base n i w) (ltb n (i + 4))
     (λ e h. let z : ◌≡◌ {A = ℕ} 0 1 = cc in absurd (omega arith))
     (λ e h. record { all = ltb-false n (i + 4) e; word = cc })
 
@@ -56,7 +55,7 @@ module _ (l : Lengths) (b : Bus) (z : AccessSize) (a : ℕ) (fits : a < 2 ^ 32) 
       → w % 256 ^ size_bytes_of z ≡ load l b z a
   low {xs} {q} k s e = ap (λ (n : ℕ). n % 256 ^ size_bytes_of z) e ∙ sym (aligned_load l b a fits xs q s k z aligned)
 
-  by_target : (t : Target) {w : ℕ} → target l a ≡ t → word_from b.rom b.store a t ≡ loaded.Word w
+  by_target : (t : Target) {w : ℕ} → target l a ≡ t → word_from b.rom b.store a t ≡ Some w
       → w % 256 ^ size_bytes_of z ≡ load l b z a
   by_target Unused e h = let x : ◌≡◌ {A = ℕ} 0 1 = cc in absurd (omega arith)
   by_target SystemRom e h = let x : ◌≡◌ {A = ℕ} 0 1 = cc in absurd (omega arith)
@@ -72,7 +71,7 @@ module _ (l : Lengths) (b : Bus) (z : AccessSize) (a : ℕ) (fits : a < 2 ^ 32) 
   by_target (Sram p i) e h = let x : ◌≡◌ {A = ℕ} 0 1 = cc in absurd (omega arith)
 
   -- the word that was found has the load in its low bytes
-  pub word_loads : (t : Target) {w : ℕ} → t ≡ target l a → word_from b.rom b.store a t ≡ loaded.Word w
+  pub word_loads : (t : Target) {w : ℕ} → t ≡ target l a → word_from b.rom b.store a t ≡ Some w
       → w % 256 ^ size_bytes_of z ≡ load l b z a
   word_loads t e h = by_target t (sym e) h
 

@@ -11,7 +11,7 @@ ghost use Rattle.loads.specs.Bus.{bus, Meets};
 ghost use Rattle.loads.specs.Words as words;
 
 use model::{AccessSize, Lengths, Part, Target};
-use openbus::{OpenBusState, ProtectedRead};
+use openbus::OpenBusState;
 use parts::{byte_in, is_sram, target_of};
 use region::mirror::rom_offset;
 use waits::size_bytes;
@@ -26,8 +26,8 @@ fn read_bios8(addr: u32, pc: u32, latch: u32, bios: &[u8]) -> u8
     };
     let protect = openbus::bios_protect_read(pc, state);
     match protect {
-        ProtectedRead::Latched(opcode) => openbus::bios_protect_byte(opcode, addr),
-        ProtectedRead::Unprotected => le::byte_at(bios, addr as usize),
+        Some(opcode) => openbus::bios_protect_byte(opcode, addr),
+        None => le::byte_at(bios, addr as usize),
     }
 }
 
@@ -119,49 +119,43 @@ pub fn read32(
 
 // ---- an aligned load, which lies in one memory
 
-// `Option<u32>`: the word at a place, if all four bytes of it stand in the memory.
-#[derive(Clone, Copy)]
-pub enum Loaded {
-    Word(u32),
-    Apart,
-}
-
+// The word at a place, if all four bytes of it stand in the memory.
 #[tactic(auto, unfolding(crate::specs::Words::word_at))]
-fn word_in(store: &[u8], part: Part, index: usize) -> Loaded
+fn word_in(store: &[u8], part: Part, index: usize) -> Option<u32>
     requires { InPart (length store.now) part index }
     ensures { result ≡ words.word_in store.now part index }
 {
     if part.size < index + 4 {
-        return Loaded::Apart;
+        return None;
     }
     let base = part.base;
     let end = base + part.size;
-    Loaded::Word(le::read32(&store[base..end], index))
+    Some(le::read32(&store[base..end], index))
 }
 
 #[tactic(auto, unfolding(crate::specs::Words::word_at))]
-fn word_of_rom(rom: &[u8], index: usize) -> Loaded
+fn word_of_rom(rom: &[u8], index: usize) -> Option<u32>
     requires { index + 4 < 2 ^ 64 }
     ensures { result ≡ words.word_at rom.now 0 (length rom.now) index }
 {
     if rom.len() < index + 4 {
-        return Loaded::Apart;
+        return None;
     }
-    Loaded::Word(le::read32(rom, index))
+    Some(le::read32(rom, index))
 }
 
 #[tactic(auto, unfolding(crate::specs::Words::word_at))]
-fn word_from(target: Target, addr: u32, rom: &[u8], store: &[u8]) -> Loaded
+fn word_from(target: Target, addr: u32, rom: &[u8], store: &[u8]) -> Option<u32>
     requires { Lies (length store.now) target }
     ensures { result ≡ words.word_from rom.now store.now addr target }
 {
     match target {
-        Target::Unused => Loaded::Apart,
-        Target::SystemRom => Loaded::Apart,
+        Target::Unused => None,
+        Target::SystemRom => None,
         Target::GamePakRom => word_of_rom(rom, rom_offset(addr)),
         Target::Plain(part, index) => word_in(store, part, index),
         Target::Video(_memory, part, index) => word_in(store, part, index),
-        Target::Sram(_part, _index) => Loaded::Apart,
+        Target::Sram(_part, _index) => None,
     }
 }
 
@@ -241,7 +235,7 @@ pub fn read(
 {
     if addr % size_bytes(size) == 0 {
         let loaded = word_from(target, addr, rom, store);
-        if let Loaded::Word(word) = loaded {
+        if let Some(word) = loaded {
             return low_bytes(size, word);
         }
     }

@@ -22,9 +22,8 @@ ghost use Rattle.loads.specs.Bus.{bus};
 
 use model::{
     AccessSize, Answer, Clock, Contents, IsaState, Lengths, PrefetchBuffer, Region, Step, Target,
-    TimingInput, Version, VideoMemory, Windowed,
+    TimingInput, Version, VideoMemory,
 };
-use prefetch::Half;
 use stores::saturating_add;
 use waits::waitcnt::WaitCnt;
 
@@ -457,7 +456,7 @@ fn fetch_step(clock: Clock, contents: Contents, halves: &[u16; 8], addr: u32) ->
     let prefetch = fetched.prefetch;
     let half = fetched.half;
     let after = cleared(with_prefetch(clock, prefetch));
-    let Half::Found(value) = half else {
+    let Some(value) = half else {
         return unanswered(after, contents, 0, 0);
     };
     Begun {
@@ -517,7 +516,7 @@ fn fetch_code(buffer: PrefetchBuffer, isa: IsaState, addr: u32, waits: [[u8; 2];
     requires { buffer.head < 8 }
     ensures { result ≡ code_fetch waits buffer addr isa }
 {
-    let Windowed::In(_window) = waits::window_from_addr(addr) else {
+    let Some(_window) = waits::window_from_addr(addr) else {
         return CodeFetch {
             prefetch: buffer,
             hits: 0,
