@@ -8,9 +8,7 @@ ghost use Rattle.std.specs.Prelude.{◌≤◌, length, IfOk};
 ghost use Rattle.model.specs.Sheet.{max_records};
 
 use grounds::names::{beat_ground, ground_name};
-use model::{
-    ANSWER_LENGTH, BeatGround, GROUNDS_LENGTH, Ground, HEADER_LENGTH, MAX_RECORDS, RECORD_LENGTH,
-};
+use model::{ANSWER_LENGTH, GROUNDS_LENGTH, Ground, HEADER_LENGTH, MAX_RECORDS, RECORD_LENGTH};
 use std::io;
 use std::io::Read;
 
@@ -34,10 +32,10 @@ fn print_name<P: Print>(rt: &P, ground: Ground) -> io::Result<()> {
     rt.write_all(&letters[..n])
 }
 
-fn print_ground<P: Print>(rt: &P, beat: BeatGround) -> io::Result<()> {
+fn print_ground<P: Print>(rt: &P, beat: Option<Ground>) -> io::Result<()> {
     match beat {
-        BeatGround::By(ground) => print_name(rt, ground),
-        BeatGround::NoBeat => Ok(()),
+        Some(ground) => print_name(rt, ground),
+        None => Ok(()),
     }
 }
 

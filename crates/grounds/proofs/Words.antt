@@ -1,6 +1,7 @@
 -- The words of a block, told one after the other: what holds at the loop's test, that a turn tells one word more, and that
 -- behind the last all are told. Assumes nothing.
 use Rattle.std.proofs.Common.{◌≡◌, ℕ, suc, ◌+◌, ◌-◌, ◌*◌, ◌<◌, ◌≤◌, false, eqb, List, [], ◌∷◌, ◌++◌, map, length, get_or, set, replicate, sym, refl, ap, ◌∙◌, ap₂, true≢false, append_assoc, append-nil, arith, length-append, ne_eqb}
+use Rattle.std.specs.Prelude.{Some, None}
 use mathlib.Core.List.{map-append}
 use lib.ListN.{length-map}
 use lib.Seq.{append_snoc, set_at}
@@ -16,7 +17,6 @@ use Rattle.model.proofs.Laws.Grounds.{byte_back}
 use Rattle.model.proofs.Laws.Explained.{beat_width}
 use Rattle.model.specs.declared.Ground.{Ground}
 use Rattle.model.specs.declared.Ground.TheVariants.{Sequential, EwramBus, SramBus, VideoBus, Fast}
-use Rattle.model.specs.declared.BeatGround.TheVariants.{By, NoBeat}
 use Rattle.model.specs.declared.AccessSize.{AccessSize}
 use Rattle.model.specs.declared.AccessSize.TheVariants.{Word}
 use Rattle.grounds.specs.declared.Beats.{Beats}
@@ -58,7 +58,7 @@ some_byte : (g : Ground) → eqb (ground_byte g) 0 ≡ false
 unfolding beat_ground
 some_byte g = ne_eqb (ground_byte g) 0 (λ e. no_ground (sym (byte_back g) ∙ ap beat_ground e))
   where
-    no_ground : By g ≡ NoBeat → ⊥
+    no_ground : Some g ≡ None → ⊥
     no_ground e = true≢false cc
 
 -- a word has one beat or two

@@ -5,6 +5,7 @@ use Rattle.std.proofs.Math.Path.{refl, ap}
 use Rattle.std.proofs.Common.{sym, ap₂, ◌∙◌, arith}
 use borrow.Author.Tests.{ne_eqb, lt-leb}
 use Rattle.std.specs.Prelude.{if◌then◌else◌}
+use Rattle.std.specs.Prelude.{Option, Some, None}
 use Rattle.model.specs.Base.{bit, further, lowered}
 use Rattle.model.specs.Waitcnt.{Waits, written, prefetch_enable}
 use Rattle.model.specs.Wait.{size_bytes_of, access_size_of, aligned, window, is_in, in_window, force_nonseq, classify_access}
@@ -37,9 +38,8 @@ use Rattle.model.proofs.Laws.Sound.{ready_sound, tick1_sound, fetched_sound, set
 use Rattle.model.proofs.Laws.Sound.{code_fetched_sound}
 use Rattle.model.proofs.Laws.Commits.{ready_same, tick1_one, tick1_none}
 use Rattle.model.specs.declared.PrefetchBuffer.{PrefetchBuffer}
+use Rattle.model.specs.declared.RomWindow.{RomWindow}
 use Rattle.model.specs.declared.Clock.{Clock}
-use Rattle.model.specs.declared.Windowed.{Windowed}
-use Rattle.model.specs.declared.Windowed.TheVariants.{In, Outside}
 use Rattle.model.specs.declared.Ground.{Ground}
 use Rattle.model.specs.declared.Ground.TheVariants.{BufferHit, Sequential, ByFlag, ByBlock, ByAddress}
 use Rattle.model.specs.declared.AccessKind.TheVariants.{Nonseq, Seq}
@@ -120,9 +120,9 @@ unfolding restart
 restart_front t p a =
     choose (Fronts (lowered 2 a)) p.enabled (λ e. by (window a)) (λ e. drained_fronts (lowered 2 a) p.enabled)
   where
-    by : (v : Windowed) → Fronts (lowered 2 a) (restart_in t p a v)
-    by (In win) = record { stands = λ l. absurd (omega arith); comes = λ r. omega arith }
-    by Outside = drained_fronts (lowered 2 a) p.enabled
+    by : (v : Option RomWindow) → Fronts (lowered 2 a) (restart_in t p a v)
+    by (Some win) = record { stands = λ l. absurd (omega arith); comes = λ r. omega arith }
+    by None = drained_fronts (lowered 2 a) p.enabled
 
 pub switch_front : (h : ℕ) (on : Bool) (p : PrefetchBuffer) → Fronts h p → Fronts h (set_enabled on p)
 unfolding set_enabled
@@ -195,11 +195,11 @@ pub code_fronts : (c : Clock) (h : ℕ) (isa : IsaState) (a : ℕ) → Sound c.p
 unfolding code_front code_fetched
 code_fronts c h isa a s f = by (window a) refl
   where
-    by : (v : Windowed) → window a ≡ v
+    by : (v : Option RomWindow) → window a ≡ v
         → Fronts (if is_in v then lowered 2 (further (size_bytes_of (code_size isa)) a) else h)
         (fetched_in (waits_of c) c.prefetch a isa v)
-    by (In win) e = code_front_law (waits_of c) h c.prefetch a isa s f (window_in a win e)
-    by Outside e = f
+    by (Some win) e = code_front_law (waits_of c) h c.prefetch a isa s f (window_in a win e)
+    by None e = f
 
 -- ---- the grounds from the trail
 
@@ -215,11 +215,11 @@ pub fetch_same : (hits hits' : ℕ → Bool) (forced : Bool) (isa : IsaState) (a
 unfolding fetch_grounds
 fetch_same hits hits' forced isa a e = by (window a)
   where
-    by : (v : Windowed) → fetch_grounds_in hits forced a isa v ≡ fetch_grounds_in hits' forced a isa v
-    by (In win) =
+    by : (v : Option RomWindow) → fetch_grounds_in hits forced a isa v ≡ fetch_grounds_in hits' forced a isa v
+    by (Some win) =
         ap₂ (wide (code_size isa)) (half_same hits hits' forced a (e a))
         (half_same hits hits' false (further 2 a) (e (further 2 a)))
-    by Outside = refl
+    by None = refl
 
 -- where an access goes on from the previous one
 abbrev pub next_of : Previous → ℕ

@@ -5,6 +5,7 @@ use Rattle.std.proofs.Math.Path.{refl}
 use Rattle.std.proofs.Common.{sym, ap, ap₂, ◌∙◌, true≢false, arith, eqb-true, ltb-true, ltb-false}
 use Rattle.std.proofs.lemmas.Bool.{false≢true}
 use Rattle.std.specs.Prelude.{if◌then◌else◌}
+use Rattle.std.specs.Prelude.{Option, Some, None}
 use Rattle.model.specs.Base.{further}
 use Rattle.model.specs.Region.{page, region_at, decode, bios_size}
 use Rattle.model.specs.Wait.{access_size_of, window, is_in, in_window}
@@ -17,9 +18,8 @@ use Rattle.model.specs.declared.Ground.{Ground}
 use Rattle.model.specs.declared.Ground.TheVariants.{Sequential, EwramBus, SramBus, VideoBus, Fast}
 use Rattle.model.specs.declared.Region.{Region}
 use Rattle.model.specs.declared.Region.TheVariants.{Bios, UnusedLow}
+use Rattle.model.specs.declared.RomWindow.{RomWindow}
 use Rattle.model.specs.declared.AccessSize.TheVariants.{Byte, Half, Word}
-use Rattle.model.specs.declared.Windowed.{Windowed}
-use Rattle.model.specs.declared.Windowed.TheVariants.{In, Outside}
 use Rattle.model.specs.declared.IsaState.TheVariants.{Arm, Thumb}
 use Rattle.grounds.specs.Trail.{page_digit}
 
@@ -168,19 +168,19 @@ module _ (hits : ℕ → Bool) (forced : Bool) (size a : ℕ) where
   unfolding fetch_grounds
   code_in = by (window a)
     where
-      by : (v : Windowed) → is_in v ≡ true
+      by : (v : Option RomWindow) → is_in v ≡ true
           → beat_bytes (fetch_grounds_in hits forced a (isa_state size) v)
           ≡ ground_byte (half_ground hits forced a)
           ∷ (if nat_eq size 2 then 0 else ground_byte (half_ground hits false (further 2 a))) ∷ zeros
-      by (In win) h = code_bytes size (half_ground hits forced a) (half_ground hits false (further 2 a))
-      by Outside h = absurd (false≢true h)
+      by (Some win) h = code_bytes size (half_ground hits forced a) (half_ground hits false (further 2 a))
+      by None h = absurd (false≢true h)
 
   pub code_out : in_window a ≡ false
       → beat_bytes (fetch_grounds hits forced (isa_state size) a) ≡ ground_byte (plain_ground a) ∷ 0 ∷ zeros
   unfolding fetch_grounds
   code_out = by (window a)
     where
-      by : (v : Windowed) → is_in v ≡ false
+      by : (v : Option RomWindow) → is_in v ≡ false
           → beat_bytes (fetch_grounds_in hits forced a (isa_state size) v) ≡ ground_byte (plain_ground a) ∷ 0 ∷ zeros
-      by (In win) h = absurd (true≢false h)
-      by Outside h = refl
+      by (Some win) h = absurd (true≢false h)
+      by None h = refl

@@ -3,7 +3,7 @@ ghost use Rattle.std.specs.Prelude.{◌≡◌};
 ghost use Rattle.model.specs.Grounds as def;
 ghost use Rattle.grounds.specs.Names.{named};
 
-use model::{BeatGround, Ground};
+use model::Ground;
 
 pub fn ground_byte(g: Ground) -> u8
     ensures { result ≡ def.ground_byte g }
@@ -23,20 +23,20 @@ pub fn ground_byte(g: Ground) -> u8
 
 // What a byte says; any but these nine says that there is no beat.
 #[tactic(auto, unfolding(model::specs::Grounds::beat_ground))]
-pub fn beat_ground(byte: u8) -> BeatGround
+pub fn beat_ground(byte: u8) -> Option<Ground>
     ensures { result ≡ def.beat_ground byte }
 {
     match byte {
-        1 => BeatGround::By(Ground::BufferHit),
-        2 => BeatGround::By(Ground::Sequential),
-        3 => BeatGround::By(Ground::ByFlag),
-        4 => BeatGround::By(Ground::ByBlock),
-        5 => BeatGround::By(Ground::ByAddress),
-        6 => BeatGround::By(Ground::EwramBus),
-        7 => BeatGround::By(Ground::SramBus),
-        8 => BeatGround::By(Ground::VideoBus),
-        9 => BeatGround::By(Ground::Fast),
-        _ => BeatGround::NoBeat,
+        1 => Some(Ground::BufferHit),
+        2 => Some(Ground::Sequential),
+        3 => Some(Ground::ByFlag),
+        4 => Some(Ground::ByBlock),
+        5 => Some(Ground::ByAddress),
+        6 => Some(Ground::EwramBus),
+        7 => Some(Ground::SramBus),
+        8 => Some(Ground::VideoBus),
+        9 => Some(Ground::Fast),
+        _ => None,
     }
 }
 

@@ -2,6 +2,7 @@
 -- definitions. Assumes nothing.
 use Rattle.std.proofs.Common.{◌≡◌, ℕ, ◌+◌, ◌*◌, Bool, true, false, ltb, List, length, sym, refl, ap, ◌∙◌, ap₂, subst}
 use Rattle.std.specs.Prelude.{if◌then◌else◌}
+use Rattle.std.specs.Prelude.{Some, None}
 use Rattle.model.specs.Base.{further}
 use Rattle.model.specs.Region.{bios_size}
 use Rattle.model.specs.Memory.{target, is_sram, lengths_sum}
@@ -13,24 +14,23 @@ use Rattle.model.specs.declared.Lengths.{Lengths}
 use Rattle.model.specs.declared.Target.{Target}
 use Rattle.openbus.specs.OpenBus.{latching, protected_read}
 use Rattle.loads.specs.Bus.{Meets}
-use Rattle.openbus.specs.declared.ProtectedRead.TheVariants.{Latched, Unprotected}
 
 -- ---- BIOS loads
 
-latched_case : (t : Bool) (op op' : ℕ) → (if t then Unprotected else Latched op) ≡ Latched op' → (t ≡ false) × (op' ≡ op)
+latched_case : (t : Bool) (op op' : ℕ) → (if t then None else Some op) ≡ Some op' → (t ≡ false) × (op' ≡ op)
 latched_case true op op' e = let z : ◌≡◌ {A = Bool} true false = cc in (cc, cc)
 latched_case false op op' e = (refl, cc)
 
 -- the latch was read, so the pc is outside the BIOS
-pub latched : (pc op : ℕ) {op' : ℕ} → protected_read pc (latching op) ≡ Latched op' → (ltb pc bios_size ≡ false) × (op' ≡ op)
+pub latched : (pc op : ℕ) {op' : ℕ} → protected_read pc (latching op) ≡ Some op' → (ltb pc bios_size ≡ false) × (op' ≡ op)
 unfolding protected_read
 latched pc op {op'} e = latched_case (ltb pc bios_size) op op' e
 
-unlatched_case : (t : Bool) (op : ℕ) → (if t then Unprotected else Latched op) ≡ Unprotected → t ≡ true
+unlatched_case : (t : Bool) (op : ℕ) → (if t then None else Some op) ≡ None → t ≡ true
 unlatched_case true op e = refl
 unlatched_case false op e = let z : ◌≡◌ {A = Bool} true false = cc in cc
 
-pub unlatched : (pc op : ℕ) → protected_read pc (latching op) ≡ Unprotected → ltb pc bios_size ≡ true
+pub unlatched : (pc op : ℕ) → protected_read pc (latching op) ≡ None → ltb pc bios_size ≡ true
 unfolding protected_read
 unlatched pc op e = unlatched_case (ltb pc bios_size) op e
 

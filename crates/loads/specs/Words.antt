@@ -1,6 +1,7 @@
 -- The word that stands at a place, if all four bytes of it do; and where there is none to be found.
 use Rattle.std.specs.Prelude.{ℕ, ◌+◌, Bool, true, false, List, length, nat_lt, Option, Some, None}
 use Rattle.std.specs.Prelude.{if◌then◌else◌}
+use Rattle.std.specs.Prelude.{Option, Some, None}
 use Rattle.model.specs.Base.{number}
 use Rattle.model.specs.Mirror.{rom_offset}
 use Rattle.model.specs.declared.Part.{Part}

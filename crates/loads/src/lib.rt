@@ -14,7 +14,7 @@ ghost use Rattle.loads.specs.Bus.{media, bus, Parted, parted};
 ghost use Rattle.loads.specs.Words as words;
 
 use model::{AccessSize, Lengths, Part, Target};
-use openbus::{OpenBusState, ProtectedRead};
+use openbus::OpenBusState;
 use parts::{byte_in, is_sram, target_of};
 use region::mirror::rom_offset;
 use std::marker::Model;
@@ -64,8 +64,8 @@ fn read_bios8(addr: u32, pc: u32, latch: u32, bios: &[u8]) -> u8
     };
     let protect = openbus::bios_protect_read(pc, state);
     match protect {
-        ProtectedRead::Latched(opcode) => openbus::bios_protect_byte(opcode, addr),
-        ProtectedRead::Unprotected => le::byte_at(bios, addr as usize),
+        Some(opcode) => openbus::bios_protect_byte(opcode, addr),
+        None => le::byte_at(bios, addr as usize),
     }
 }
 

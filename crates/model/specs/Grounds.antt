@@ -2,6 +2,7 @@
 -- From document 02, W-206, and W-207, by which a block has the grounds of its words.
 use Rattle.std.specs.Prelude.{◌≡◌, Bool, true, false, not, ◌&&◌, List, [], ◌∷◌, ◌++◌, map, ℕ, zero, suc, ◌+◌, ◌-◌, ◌*◌, ◌≤◌, ◌<◌, length, take, drop, replicate, eqb, ltb}
 use Rattle.std.specs.Prelude.{if◌then◌else◌}
+use Rattle.std.specs.Prelude.{Option, Some, None}
 use Rattle.model.specs.Base.{bit, sum, further, byte_at, blocks, Exactly}
 use Rattle.model.specs.Region.{page, decode}
 use Rattle.model.specs.Waitcnt.{Waits, rom_waits_of, sram_waits}
@@ -19,12 +20,9 @@ use Rattle.model.specs.Outcome.{Lent, Outcome, Row, first_row, second_rows, outc
 use Rattle.model.specs.Alike.{state_at, answer_at, Demand3}
 use Rattle.model.specs.declared.Ground.{Ground}
 use Rattle.model.specs.declared.Ground.TheVariants.{BufferHit, Sequential, ByFlag, ByBlock, ByAddress}
+use Rattle.model.specs.declared.RomWindow.{RomWindow}
 use Rattle.model.specs.declared.Ground.TheVariants.{EwramBus, SramBus, VideoBus, Fast}
-use Rattle.model.specs.declared.BeatGround.{BeatGround}
-use Rattle.model.specs.declared.BeatGround.TheVariants.{By, NoBeat}
 use Rattle.model.specs.declared.Clock.{Clock}
-use Rattle.model.specs.declared.Windowed.{Windowed}
-use Rattle.model.specs.declared.Windowed.TheVariants.{In, Outside}
 use Rattle.model.specs.declared.AccessKind.{AccessKind}
 use Rattle.model.specs.declared.AccessKind.TheVariants.{Nonseq, Seq}
 use Rattle.model.specs.declared.AccessSize.{AccessSize}
@@ -62,12 +60,12 @@ ground_byte VideoBus = 8
 ground_byte Fast = 9
 
 -- a halfword of a window
-abbrev pub window_cycles : Waits → Windowed → AccessKind → ℕ
-window_cycles t (In win) k = rom_half_cycles t win k
-window_cycles t Outside k = 0
+abbrev pub window_cycles : Waits → Option RomWindow → AccessKind → ℕ
+window_cycles t (Some win) k = rom_half_cycles t win k
+window_cycles t None k = 0
 
 -- its cycles, under WAITCNT `w`, in the window `v`, of a beat in EWRAM of size `z`
-abbrev pub ground_cycles : ℕ → Windowed → AccessSize → Ground → ℕ
+abbrev pub ground_cycles : ℕ → Option RomWindow → AccessSize → Ground → ℕ
 ground_cycles w v z BufferHit = 1
 ground_cycles w v z Sequential = window_cycles (rom_waits_of w) v Seq
 ground_cycles w v z ByFlag = window_cycles (rom_waits_of w) v Nonseq
@@ -98,9 +96,9 @@ unfoldable pub plain_ground : ℕ → Ground
 plain_ground a = if eqb (page a) 0x02 then EwramBus else Fast
 
 -- it is from ROM when its address lies in a window
-abbrev pub fetch_grounds_in : (ℕ → Bool) → Bool → ℕ → IsaState → Windowed → List Ground
-fetch_grounds_in hits forced a isa (In win) = rom_grounds hits forced a isa
-fetch_grounds_in hits forced a isa Outside = plain_ground a ∷ []
+abbrev pub fetch_grounds_in : (ℕ → Bool) → Bool → ℕ → IsaState → Option RomWindow → List Ground
+fetch_grounds_in hits forced a isa (Some win) = rom_grounds hits forced a isa
+fetch_grounds_in hits forced a isa None = plain_ground a ∷ []
 
 unfoldable pub fetch_grounds : (ℕ → Bool) → Bool → IsaState → ℕ → List Ground
 fetch_grounds hits forced isa a = fetch_grounds_in hits forced a isa (window a)
@@ -259,11 +257,11 @@ wide_condition z first second (suc (suc j)) g = false
 abbrev pub one_condition : (Ground → Bool) → ℕ → Ground → Bool
 one_condition first j g = wide_condition Byte first first j g
 
-abbrev pub fetch_condition_in : (ℕ → Bool) → Bool → IsaState → ℕ → ℕ → Ground → Windowed → Bool
-fetch_condition_in hits forced isa a j g (In win) =
+abbrev pub fetch_condition_in : (ℕ → Bool) → Bool → IsaState → ℕ → ℕ → Ground → Option RomWindow → Bool
+fetch_condition_in hits forced isa a j g (Some win) =
     wide_condition (code_size isa) (half_condition (hits a) (force_nonseq a) forced)
     (half_condition (hits (further 2 a)) (force_nonseq (further 2 a)) false) j g
-fetch_condition_in hits forced isa a j g Outside = one_condition (plain_condition a) j g
+fetch_condition_in hits forced isa a j g None = one_condition (plain_condition a) j g
 
 abbrev pub data_condition_on : AccessSize → (Ground → Bool) → ℕ → Ground → Bus → Bool
 data_condition_on z first j g OnEwram = wide_condition z (same_ground EwramBus) (same_ground EwramBus) j g
@@ -307,9 +305,9 @@ condition c (BlockRead a n) j g = block_condition (previous c) a n j g
 condition c (BlockWrite a n) j g = block_condition (previous c) a n j g
 
 -- the ground of beat j, if there is one
-abbrev pub beat_at : List Ground → ℕ → BeatGround
-beat_at [] j = NoBeat
-beat_at (g ∷ gs) zero = By g
+abbrev pub beat_at : List Ground → ℕ → Option Ground
+beat_at [] j = None
+beat_at (g ∷ gs) zero = Some g
 beat_at (g ∷ gs) (suc j) = beat_at gs j
 
 -- ---- a run with grounds
@@ -326,18 +324,18 @@ abbrev pub grounds_bytes : List (List Ground) → List ℕ
 grounds_bytes gs = blocks beat_bytes gs
 
 -- back from a byte: 0, and what is no ground's byte, is no beat
-unfoldable pub beat_ground : ℕ → BeatGround
+unfoldable pub beat_ground : ℕ → Option Ground
 beat_ground b =
-    if eqb b 1 then By BufferHit
-    else if eqb b 2 then By Sequential
-    else if eqb b 3 then By ByFlag
-    else if eqb b 4 then By ByBlock
-    else if eqb b 5 then By ByAddress
-    else if eqb b 6 then By EwramBus
-    else if eqb b 7 then By SramBus
-    else if eqb b 8 then By VideoBus
-    else if eqb b 9 then By Fast
-    else NoBeat
+    if eqb b 1 then Some BufferHit
+    else if eqb b 2 then Some Sequential
+    else if eqb b 3 then Some ByFlag
+    else if eqb b 4 then Some ByBlock
+    else if eqb b 5 then Some ByAddress
+    else if eqb b 6 then Some EwramBus
+    else if eqb b 7 then Some SramBus
+    else if eqb b 8 then Some VideoBus
+    else if eqb b 9 then Some Fast
+    else None
 
 -- all that a caller lends
 pub record Explaining : Type 0 where
@@ -403,7 +401,7 @@ pub record Explains (e : Explaining) (x : Explained) : Type 0 where
   pub none : (k : ℕ) → is_priced (step_at e.run k) ≡ false → grounds_at e.run k ≡ []
   -- a ground is named at a beat exactly when its condition decides that beat
   pub named : (k j : ℕ) (g : Ground)
-      → Exactly (beat_at (grounds_at e.run k) j ≡ By g) (condition (clock_at e.run k) (step_at e.run k) j g ≡ true)
+      → Exactly (beat_at (grounds_at e.run k) j ≡ Some g) (condition (clock_at e.run k) (step_at e.run k) j g ≡ true)
   -- one ground a number of cycles; at most two an access or a fetch, and 32 a step
   pub each : (k : ℕ) → length (worths (clock_at e.run k) (step_at e.run k)) ≡ length (grounds_at e.run k)
   pub few : (k : ℕ) → length (grounds_at e.run k) ≤ 2 * turns_in (step_at e.run k)

@@ -2,14 +2,13 @@
 -- From GBATEK, "GBA Memory Map"; src/bus/mod.rs (`Bus`); document 01, "Memories".
 use Rattle.std.specs.Prelude.{Bool, true, false, List, ℕ, ◌+◌, ltb}
 use Rattle.std.specs.Prelude.{if◌then◌else◌}
+use Rattle.std.specs.Prelude.{Option, Some, None}
 use Rattle.model.specs.Base.{byte_at}
 use Rattle.model.specs.Region.{decode}
 use Rattle.model.specs.Mirror.{ewram_offset, iwram_offset, io_offset, palette_offset, vram_offset, oam_offset, sram_offset}
 use Rattle.model.specs.declared.Region.{Region}
 use Rattle.model.specs.declared.Region.TheVariants.{Bios, UnusedLow, Ewram, Iwram, Io, Palette, Vram, Oam}
 use Rattle.model.specs.declared.Region.TheVariants.{GamePakRomWs0, GamePakRomWs1, GamePakRomWs2, GamePakSram, UnusedHigh}
-use Rattle.model.specs.declared.Offset.{Offset}
-use Rattle.model.specs.declared.Offset.TheVariants.{At, Unbacked}
 use Rattle.model.specs.declared.Lengths.{Lengths}
 use Rattle.model.specs.declared.Part.{Part}
 use Rattle.model.specs.declared.VideoMemory.TheVariants.{PaletteRam, VideoRam, ObjectRam}
@@ -58,9 +57,9 @@ byte_in s p i = if ltb i p.size then byte_at s (p.base + i) else 0
 -- ---- the memory that an address meets, and the place in it
 
 -- I/O has gaps
-abbrev pub io_target : Part → Offset → Target
-io_target p (At i) = Plain p i
-io_target p Unbacked = Unused
+abbrev pub io_target : Part → Option ℕ → Target
+io_target p (Some i) = Plain p i
+io_target p None = Unused
 
 abbrev pub target_in : Lengths → ℕ → Region → Target
 target_in l a Bios = SystemRom

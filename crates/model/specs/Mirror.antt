@@ -3,9 +3,8 @@
 -- "Offsets as in mirror.rs".
 use Rattle.std.specs.Prelude.{not, ◌&&◌, ℕ, ◌+◌, ◌-◌, ◌%◌, eqb, ltb, leb}
 use Rattle.std.specs.Prelude.{if◌then◌else◌}
+use Rattle.std.specs.Prelude.{Option, Some, None}
 use Rattle.model.specs.Region.{page, bios_size, ewram_size, iwram_size, palette_size, oam_size, rom_size, sram_size}
-use Rattle.model.specs.declared.Offset.{Offset}
-use Rattle.model.specs.declared.Offset.TheVariants.{At, Unbacked}
 
 abbrev pub ewram_offset : ℕ → ℕ
 ewram_offset a = a % ewram_size
@@ -35,12 +34,12 @@ abbrev pub sram_chip_offset : ℕ → ℕ
 sram_chip_offset a = a % 0x8000
 
 -- the word at 0x800 repeats every 64 KiB of page 4; the other registers stand once, at 0x04000000 to 0x040003FF
-unfoldable pub io_offset : ℕ → Offset
+unfoldable pub io_offset : ℕ → Option ℕ
 io_offset a =
-    if not (eqb (page a) 0x04) then Unbacked
-    else if leb 0x800 (a % 0x10000) && ltb (a % 0x10000) 0x804 then At (a % 0x10000)
-    else if ltb a 0x0400_0400 then At (a - 0x0400_0000)
-    else Unbacked
+    if not (eqb (page a) 0x04) then None
+    else if leb 0x800 (a % 0x10000) && ltb (a % 0x10000) 0x804 then Some (a % 0x10000)
+    else if ltb a 0x0400_0400 then Some (a - 0x0400_0000)
+    else None
 
-unfoldable pub bios_offset : ℕ → Offset
-bios_offset a = if ltb a bios_size then At a else Unbacked
+unfoldable pub bios_offset : ℕ → Option ℕ
+bios_offset a = if ltb a bios_size then Some a else None

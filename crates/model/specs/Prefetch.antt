@@ -3,12 +3,12 @@
 -- From GBATEK, "GBA GamePak Prefetch"; src/bus/prefetch.rs; document 01, "prefetch.rs".
 use Rattle.std.specs.Prelude.{Bool, true, false, not, ◌&&◌, List, ℕ, zero, suc, ◌+◌, ◌-◌, ◌%◌, set, eqb, ltb, leb}
 use Rattle.std.specs.Prelude.{if◌then◌else◌}
+use Rattle.std.specs.Prelude.{Option, Some, None}
 use Rattle.model.specs.Base.{further, lowered}
 use Rattle.model.specs.Waitcnt.{Waits}
 use Rattle.model.specs.Wait.{nonseq_if, window, in_window, rom_half_cycles, rom_half_cycles_at}
+use Rattle.model.specs.declared.RomWindow.{RomWindow}
 use Rattle.model.specs.declared.PrefetchBuffer.{PrefetchBuffer}
-use Rattle.model.specs.declared.Windowed.{Windowed}
-use Rattle.model.specs.declared.Windowed.TheVariants.{In, Outside}
 use Rattle.model.specs.declared.AccessKind.TheVariants.{Nonseq}
 
 -- halfwords that the buffer can hold
@@ -53,8 +53,8 @@ set_enabled false p = if p.enabled then emptied false else p
 -- ---- beats: a beat fetches one halfword from ROM
 
 -- a restart drains and puts a first beat in flight; without a window it leaves the buffer drained
-abbrev pub restart_in : Waits → PrefetchBuffer → ℕ → Windowed → PrefetchBuffer
-restart_in t p a (In win) =
+abbrev pub restart_in : Waits → PrefetchBuffer → ℕ → Option RomWindow → PrefetchBuffer
+restart_in t p a (Some win) =
     record {
       head = 0;
       count = 0;
@@ -65,7 +65,7 @@ restart_in t p a (In win) =
       filling = true;
       first_beat = true;
     }
-restart_in t p a Outside = drained p
+restart_in t p a None = drained p
 
 unfoldable pub restart : Waits → PrefetchBuffer → ℕ → PrefetchBuffer
 restart t p a = if p.enabled then restart_in t p a (window a) else drained p
@@ -73,8 +73,8 @@ restart t p a = if p.enabled then restart_in t p a (window a) else drained p
 -- the next beat; it stops where the next address has no window.
 -- Departure: GBATEK has one nonsequential beat after a start. A restart leaves `first_beat` set and only the start of the
 -- following beat clears it, so that the first two beats are nonsequential.
-abbrev pub beat_in : Waits → PrefetchBuffer → Windowed → PrefetchBuffer
-beat_in t p (In win) =
+abbrev pub beat_in : Waits → PrefetchBuffer → Option RomWindow → PrefetchBuffer
+beat_in t p (Some win) =
     record {
       head = p.head;
       count = p.count;
@@ -85,7 +85,7 @@ beat_in t p (In win) =
       filling = true;
       first_beat = false;
     }
-beat_in t p Outside =
+beat_in t p None =
     record {
       head = p.head;
       count = p.count;

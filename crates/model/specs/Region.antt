@@ -2,14 +2,12 @@
 -- From GBATEK, "GBA Memory Map"; src/bus/region.rs; document 01, "region.rs".
 use Rattle.std.specs.Prelude.{Bool, true, false, ℕ, ◌/◌, eqb, ltb}
 use Rattle.std.specs.Prelude.{if◌then◌else◌}
+use Rattle.std.specs.Prelude.{Option, Some, None}
 use Rattle.model.specs.declared.Region.{Region}
 use Rattle.model.specs.declared.Region.TheVariants.{Bios, UnusedLow, Ewram, Iwram, Io, Palette, Vram, Oam}
 use Rattle.model.specs.declared.Region.TheVariants.{GamePakRomWs0, GamePakRomWs1, GamePakRomWs2, GamePakSram, UnusedHigh}
+use Rattle.model.specs.declared.BusWidth.{BusWidth}
 use Rattle.model.specs.declared.BusWidth.TheVariants.{Bits8, Bits16, Bits32}
-use Rattle.model.specs.declared.RegionWidth.{RegionWidth}
-use Rattle.model.specs.declared.RegionWidth.TheVariants.{Wide, NoBus}
-use Rattle.model.specs.declared.RegionSize.{RegionSize}
-use Rattle.model.specs.declared.RegionSize.TheVariants.{Bytes, NoMemory}
 
 -- ---- physical sizes
 
@@ -89,35 +87,35 @@ same_region r s = eqb (region_number r) (region_number s)
 
 -- ---- what a region has
 
-abbrev pub bus_width : Region → RegionWidth
-bus_width Bios = Wide Bits32
-bus_width UnusedLow = NoBus
-bus_width Ewram = Wide Bits16
-bus_width Iwram = Wide Bits32
-bus_width Io = Wide Bits32
-bus_width Palette = Wide Bits16
-bus_width Vram = Wide Bits16
-bus_width Oam = Wide Bits32
-bus_width GamePakRomWs0 = Wide Bits16
-bus_width GamePakRomWs1 = Wide Bits16
-bus_width GamePakRomWs2 = Wide Bits16
-bus_width GamePakSram = Wide Bits8
-bus_width UnusedHigh = NoBus
+abbrev pub bus_width : Region → Option BusWidth
+bus_width Bios = Some Bits32
+bus_width UnusedLow = None
+bus_width Ewram = Some Bits16
+bus_width Iwram = Some Bits32
+bus_width Io = Some Bits32
+bus_width Palette = Some Bits16
+bus_width Vram = Some Bits16
+bus_width Oam = Some Bits32
+bus_width GamePakRomWs0 = Some Bits16
+bus_width GamePakRomWs1 = Some Bits16
+bus_width GamePakRomWs2 = Some Bits16
+bus_width GamePakSram = Some Bits8
+bus_width UnusedHigh = None
 
-abbrev pub physical_size : Region → RegionSize
-physical_size Bios = Bytes bios_size
-physical_size UnusedLow = NoMemory
-physical_size Ewram = Bytes ewram_size
-physical_size Iwram = Bytes iwram_size
-physical_size Io = Bytes io_size
-physical_size Palette = Bytes palette_size
-physical_size Vram = Bytes vram_size
-physical_size Oam = Bytes oam_size
-physical_size GamePakRomWs0 = Bytes rom_size
-physical_size GamePakRomWs1 = Bytes rom_size
-physical_size GamePakRomWs2 = Bytes rom_size
-physical_size GamePakSram = Bytes sram_size
-physical_size UnusedHigh = NoMemory
+abbrev pub physical_size : Region → Option ℕ
+physical_size Bios = Some bios_size
+physical_size UnusedLow = None
+physical_size Ewram = Some ewram_size
+physical_size Iwram = Some iwram_size
+physical_size Io = Some io_size
+physical_size Palette = Some palette_size
+physical_size Vram = Some vram_size
+physical_size Oam = Some oam_size
+physical_size GamePakRomWs0 = Some rom_size
+physical_size GamePakRomWs1 = Some rom_size
+physical_size GamePakRomWs2 = Some rom_size
+physical_size GamePakSram = Some sram_size
+physical_size UnusedHigh = None
 
 abbrev pub is_game_pak_rom : Region → Bool
 is_game_pak_rom Bios = false

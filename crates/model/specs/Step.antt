@@ -5,6 +5,7 @@
 -- the Rust calls it stands for.
 use Rattle.std.specs.Prelude.{Bool, ◌&&◌, List, [], ◌∷◌, ◌++◌, map, ℕ, zero, suc, ◌+◌, length, get_or}
 use Rattle.std.specs.Prelude.{if◌then◌else◌}
+use Rattle.std.specs.Prelude.{Option, Some, None}
 use Rattle.model.specs.Base.{bit, sum, further}
 use Rattle.model.specs.Waitcnt.{Waits, written, prefetch_enable, rom_waits_of}
 use Rattle.model.specs.Wait.{window}
@@ -26,9 +27,8 @@ use Rattle.model.specs.declared.Answer.{Answer}
 use Rattle.model.specs.declared.VideoMemory.{VideoMemory}
 use Rattle.model.specs.declared.VideoMemory.TheVariants.{PaletteRam, VideoRam, ObjectRam}
 use Rattle.model.specs.declared.Target.{Target}
+use Rattle.model.specs.declared.RomWindow.{RomWindow}
 use Rattle.model.specs.declared.Target.TheVariants.{Unused, SystemRom, GamePakRom, Plain, Video, Sram}
-use Rattle.model.specs.declared.Windowed.{Windowed}
-use Rattle.model.specs.declared.Windowed.TheVariants.{In, Outside}
 use Rattle.model.specs.declared.AccessSize.{AccessSize}
 use Rattle.model.specs.declared.AccessSize.TheVariants.{Word}
 use Rattle.model.specs.declared.Version.{Version}
@@ -108,13 +108,13 @@ rom_fetched t p a Arm =
     else restart t (fetched (fetched p a) (further 2 a)) (further 4 a)
 
 -- code outside the windows fetches nothing from the buffer
-abbrev pub hits_in : PrefetchBuffer → ℕ → IsaState → Windowed → ℕ
-hits_in p a isa (In win) = rom_hits p a isa
-hits_in p a isa Outside = 0
+abbrev pub hits_in : PrefetchBuffer → ℕ → IsaState → Option RomWindow → ℕ
+hits_in p a isa (Some win) = rom_hits p a isa
+hits_in p a isa None = 0
 
-abbrev pub fetched_in : Waits → PrefetchBuffer → ℕ → IsaState → Windowed → PrefetchBuffer
-fetched_in t p a isa (In win) = rom_fetched t p a isa
-fetched_in t p a isa Outside = p
+abbrev pub fetched_in : Waits → PrefetchBuffer → ℕ → IsaState → Option RomWindow → PrefetchBuffer
+fetched_in t p a isa (Some win) = rom_fetched t p a isa
+fetched_in t p a isa None = p
 
 unfoldable pub code_hits : Clock → IsaState → ℕ → ℕ
 code_hits c isa a = hits_in c.prefetch a isa (window a)

@@ -4,6 +4,7 @@
 -- Departures: branches and stores have no extra or nonsequential fetch, and data cycles are steps of their own.
 use Rattle.std.specs.Prelude.{Bool, List, [], ◌∷◌, ℕ, ◌+◌, ◌%◌, eqb}
 use Rattle.std.specs.Prelude.{if◌then◌else◌}
+use Rattle.std.specs.Prelude.{Option, Some, None}
 use Rattle.model.specs.Base.{bit, further}
 use Rattle.model.specs.Region.{page}
 use Rattle.model.specs.Waitcnt.{Waits}
@@ -15,8 +16,6 @@ use Rattle.model.specs.declared.PrefetchBuffer.{PrefetchBuffer}
 use Rattle.model.specs.declared.TimingInput.{TimingInput}
 use Rattle.model.specs.declared.InsnCycles.{InsnCycles}
 use Rattle.model.specs.declared.RomWindow.{RomWindow}
-use Rattle.model.specs.declared.Windowed.{Windowed}
-use Rattle.model.specs.declared.Windowed.TheVariants.{In, Outside}
 use Rattle.model.specs.declared.AccessKind.{AccessKind}
 use Rattle.model.specs.declared.AccessKind.TheVariants.{Seq}
 use Rattle.model.specs.declared.AccessSize.{AccessSize}
@@ -51,9 +50,9 @@ rom_beats p a win k Arm = half_beat p a win k ∷ half_beat p (further 2 a) win 
 unfoldable pub plain_beat : ℕ → IsaState → Beat
 plain_beat a isa = if eqb (page a) 0x02 then EwramBeat (code_size isa) else FastBeat
 
-abbrev pub fetch_beats_in : PrefetchBuffer → ℕ → AccessKind → IsaState → Windowed → List Beat
-fetch_beats_in p a k isa (In win) = rom_beats p a win k isa
-fetch_beats_in p a k isa Outside = plain_beat a isa ∷ []
+abbrev pub fetch_beats_in : PrefetchBuffer → ℕ → AccessKind → IsaState → Option RomWindow → List Beat
+fetch_beats_in p a k isa (Some win) = rom_beats p a win k isa
+fetch_beats_in p a k isa None = plain_beat a isa ∷ []
 
 -- departure: a fetch is sequential unless the force flag is set, after a jump too
 unfoldable pub fetch_beats : PrefetchBuffer → Bool → IsaState → ℕ → List Beat
@@ -62,9 +61,9 @@ fetch_beats p force isa a = fetch_beats_in p a (nonseq_if force) isa (window a)
 -- ---- the price of an instruction
 
 -- the cycles in which the cartridge bus is free: a fetch outside ROM, and the internal cycle
-abbrev pub idle_in : Waits → ℕ → IsaState → Windowed → ℕ
-idle_in t a isa (In win) = 0
-idle_in t a isa Outside = beat_cycles t (plain_beat a isa)
+abbrev pub idle_in : Waits → ℕ → IsaState → Option RomWindow → ℕ
+idle_in t a isa (Some win) = 0
+idle_in t a isa None = beat_cycles t (plain_beat a isa)
 
 unfoldable pub cart_idle_of : Waits → Version → IsaState → ℕ → ℕ → ℕ
 cart_idle_of t v isa a raw = idle_in t a isa (window a) + bit (internal v isa raw)

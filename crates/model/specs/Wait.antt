@@ -2,13 +2,12 @@
 -- From GBATEK, "GBA Memory Map" (access times) and "GBA System Control" (waitstates); src/bus/wait.rs; document 01, "wait.rs".
 use Rattle.std.specs.Prelude.{Bool, true, false, not, ◌&&◌, [], ℕ, ◌+◌, ◌%◌, ◌^◌, get_or, eqb, ltb}
 use Rattle.std.specs.Prelude.{if◌then◌else◌}
+use Rattle.std.specs.Prelude.{Option, Some, None}
 use Rattle.model.specs.Base.{further, lowered}
 use Rattle.model.specs.Region.{page}
 use Rattle.model.specs.Waitcnt.{Waits}
 use Rattle.model.specs.declared.RomWindow.{RomWindow}
 use Rattle.model.specs.declared.RomWindow.TheVariants.{Ws0, Ws1, Ws2}
-use Rattle.model.specs.declared.Windowed.{Windowed}
-use Rattle.model.specs.declared.Windowed.TheVariants.{In, Outside}
 use Rattle.model.specs.declared.AccessKind.{AccessKind}
 use Rattle.model.specs.declared.AccessKind.TheVariants.{Nonseq, Seq}
 use Rattle.model.specs.declared.AccessSize.{AccessSize}
@@ -36,20 +35,20 @@ aligned z a = lowered (size_bytes_of z) (a % 2 ^ 32)
 -- ---- windows
 
 -- by the page: 0x08 and 0x09, 0x0A and 0x0B, 0x0C and 0x0D
-abbrev pub window_at : ℕ → Windowed
+abbrev pub window_at : ℕ → Option RomWindow
 window_at p =
-    if ltb p 0x08 then Outside
-    else if ltb p 0x0A then In Ws0
-    else if ltb p 0x0C then In Ws1
-    else if ltb p 0x0E then In Ws2
-    else Outside
+    if ltb p 0x08 then None
+    else if ltb p 0x0A then Some Ws0
+    else if ltb p 0x0C then Some Ws1
+    else if ltb p 0x0E then Some Ws2
+    else None
 
-unfoldable pub window : ℕ → Windowed
+unfoldable pub window : ℕ → Option RomWindow
 window a = window_at (page a)
 
-abbrev pub is_in : Windowed → Bool
-is_in (In win) = true
-is_in Outside = false
+abbrev pub is_in : Option RomWindow → Bool
+is_in (Some win) = true
+is_in None = false
 
 abbrev pub in_window : ℕ → Bool
 in_window a = is_in (window a)

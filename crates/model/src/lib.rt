@@ -35,29 +35,6 @@ pub enum BusWidth {
     Bits32,
 }
 
-// `Option<BusWidth>`: the unused areas have no bus.
-#[derive(Clone, Copy)]
-pub enum RegionWidth {
-    Wide(BusWidth),
-    NoBus,
-}
-
-// `Option<usize>`: the unused areas have no memory.
-#[derive(Clone, Copy)]
-pub enum RegionSize {
-    Bytes(usize),
-    NoMemory,
-}
-
-// ---- src/bus/mirror.rs
-
-// `Option<usize>`: the place of an address in its memory, if one stands there.
-#[derive(Clone, Copy)]
-pub enum Offset {
-    At(usize),
-    Unbacked,
-}
-
 // ---- src/bus/wait.rs
 
 #[derive(Clone, Copy)]
@@ -71,13 +48,6 @@ pub enum RomWindow {
     Ws0,
     Ws1,
     Ws2,
-}
-
-// `Option<RomWindow>`: the ROM window of an address, if it has one.
-#[derive(Clone, Copy)]
-pub enum Windowed {
-    In(RomWindow),
-    Outside,
 }
 
 #[derive(Clone, Copy)]
@@ -372,13 +342,6 @@ pub enum Ground {
     // Palette and VRAM.
     VideoBus,
     Fast,
-}
-
-// `Option<Ground>`: what a byte of the grounds says.
-#[derive(Clone, Copy)]
-pub enum BeatGround {
-    By(Ground),
-    NoBeat,
 }
 
 // ---- added: what a step answers

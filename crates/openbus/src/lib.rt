@@ -34,13 +34,6 @@ impl OpenBusState {
     }
 }
 
-// `Option<u32>`: with the pc inside the BIOS it is read as other memory.
-#[derive(Clone, Copy)]
-pub enum ProtectedRead {
-    Latched(u32),
-    Unprotected,
-}
-
 // Whether the CPU runs inside the BIOS, which may then read itself.
 pub fn pc_in_bios(pc: u32) -> bool
     ensures { result ≡ lines.in_bios pc }
@@ -48,15 +41,15 @@ pub fn pc_in_bios(pc: u32) -> bool
     pc < BIOS_END
 }
 
-// What a load from the BIOS gives: outside of it, the last opcode fetched there.
+// What a load from the BIOS gives: with the pc outside of it, the last opcode fetched there; inside, it is read as other memory.
 #[tactic(auto, unfolding(crate::specs::OpenBus::protected_read))]
-pub fn bios_protect_read(pc: u32, state: OpenBusState) -> ProtectedRead
+pub fn bios_protect_read(pc: u32, state: OpenBusState) -> Option<u32>
     ensures { result ≡ lines.protected_read pc state }
 {
     if pc_in_bios(pc) {
-        ProtectedRead::Unprotected
+        None
     } else {
-        ProtectedRead::Latched(state.last_bios_opcode)
+        Some(state.last_bios_opcode)
     }
 }
 

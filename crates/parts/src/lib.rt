@@ -8,7 +8,7 @@ ghost use Rattle.model.specs.Store.{put, put_bytes, put_aligned};
 ghost use Rattle.parts.specs.Stored.{store_report, Stores, whole};
 
 use le::byte_at;
-use model::{Lengths, Offset, Part, Region, Target, VideoMemory};
+use model::{Lengths, Part, Region, Target, VideoMemory};
 use region::mirror;
 
 // ---- the seven memories, one after the other
@@ -77,12 +77,12 @@ pub fn sram(lengths: Lengths) -> Part
 // ---- the memory that an address meets
 
 // I/O has gaps.
-fn io_target(part: Part, offset: Offset) -> Target
+fn io_target(part: Part, offset: Option<usize>) -> Target
     ensures { result ≡ def.io_target part offset }
 {
     match offset {
-        Offset::At(index) => Target::Plain(part, index),
-        Offset::Unbacked => Target::Unused,
+        Some(index) => Target::Plain(part, index),
+        None => Target::Unused,
     }
 }
 

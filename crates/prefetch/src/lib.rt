@@ -14,24 +14,17 @@ ghost use Rattle.prefetch.specs.Found.{found, fetched_half};
 ghost use Rattle.prefetch.specs.Ticked.{Ticked};
 
 use le::byte_at;
-use model::{AccessKind, PrefetchBuffer, Windowed};
+use model::{AccessKind, PrefetchBuffer};
 use region::mirror::rom_offset;
 
 // Halfwords that the buffer can hold.
 pub const PREFETCH_CAPACITY: usize = 8;
 
-// `Option<u16>`: the halfword at an address, if the buffer has it.
-#[derive(Clone, Copy)]
-pub enum Half {
-    Found(u16),
-    Missed,
-}
-
-// What a fetch gives: the buffer after it, and the halfword.
+// What a fetch gives: the buffer after it, and the halfword, if the buffer had it.
 #[derive(Clone, Copy)]
 pub struct Fetched {
     pub prefetch: PrefetchBuffer,
-    pub half: Half,
+    pub half: Option<u16>,
 }
 
 // ---- the switch, draining and restarting
@@ -77,7 +70,7 @@ pub fn restart(buffer: PrefetchBuffer, addr: u32, waits: [[u8; 2]; 3]) -> Prefet
     if !buffer.enabled {
         return started;
     }
-    let Windowed::In(window) = waits::window_from_addr(addr) else {
+    let Some(window) = waits::window_from_addr(addr) else {
         return started;
     };
     started.next_addr = addr / 2 * 2;
@@ -112,7 +105,7 @@ fn start_beat(buffer: PrefetchBuffer, waits: [[u8; 2]; 3]) -> PrefetchBuffer
     ensures { result ≡ def.start_beat waits buffer }
 {
     let mut next = buffer;
-    let Windowed::In(window) = waits::window_from_addr(buffer.next_addr) else {
+    let Some(window) = waits::window_from_addr(buffer.next_addr) else {
         next.filling = false;
         return next;
     };
@@ -266,15 +259,15 @@ pub fn hits(buffer: PrefetchBuffer, addr: u32) -> bool
 
 // The halfword at the head, if it is that of the address.
 #[tactic(auto, unfolding(crate::specs::Found::found))]
-pub fn peek_half(buffer: PrefetchBuffer, halves: &[u16; 8], addr: u32) -> Half
+pub fn peek_half(buffer: PrefetchBuffer, halves: &[u16; 8], addr: u32) -> Option<u16>
     requires { buffer.head < 8 }
     ensures { result ≡ found halves.now buffer addr }
 {
     if !hits(buffer, addr) {
-        return Half::Missed;
+        return None;
     }
     let head = buffer.head;
-    Half::Found(halves[head])
+    Some(halves[head])
 }
 
 // The head's halfword is taken.

@@ -5,7 +5,7 @@
 ghost use Rattle.std.specs.Prelude.{◌≡◌};
 ghost use Rattle.model.specs.Region as map;
 
-use model::{BusWidth, Region, RegionSize, RegionWidth};
+use model::{BusWidth, Region};
 
 pub mod mirror;
 
@@ -56,24 +56,24 @@ pub fn decode(addr: u32) -> Region
     }
 }
 
-// Ported for completeness: nothing calls it yet; the page tables to come will.
-pub fn bus_width(region: Region) -> RegionWidth
+// The unused areas have no bus. Ported for completeness: nothing calls it yet; the page tables to come will.
+pub fn bus_width(region: Region) -> Option<BusWidth>
     ensures { result ≡ map.bus_width region }
 {
     match region {
-        Region::Bios => RegionWidth::Wide(BusWidth::Bits32),
-        Region::UnusedLow => RegionWidth::NoBus,
-        Region::Ewram => RegionWidth::Wide(BusWidth::Bits16),
-        Region::Iwram => RegionWidth::Wide(BusWidth::Bits32),
-        Region::Io => RegionWidth::Wide(BusWidth::Bits32),
-        Region::Palette => RegionWidth::Wide(BusWidth::Bits16),
-        Region::Vram => RegionWidth::Wide(BusWidth::Bits16),
-        Region::Oam => RegionWidth::Wide(BusWidth::Bits32),
-        Region::GamePakRomWs0 => RegionWidth::Wide(BusWidth::Bits16),
-        Region::GamePakRomWs1 => RegionWidth::Wide(BusWidth::Bits16),
-        Region::GamePakRomWs2 => RegionWidth::Wide(BusWidth::Bits16),
-        Region::GamePakSram => RegionWidth::Wide(BusWidth::Bits8),
-        Region::UnusedHigh => RegionWidth::NoBus,
+        Region::Bios => Some(BusWidth::Bits32),
+        Region::UnusedLow => None,
+        Region::Ewram => Some(BusWidth::Bits16),
+        Region::Iwram => Some(BusWidth::Bits32),
+        Region::Io => Some(BusWidth::Bits32),
+        Region::Palette => Some(BusWidth::Bits16),
+        Region::Vram => Some(BusWidth::Bits16),
+        Region::Oam => Some(BusWidth::Bits32),
+        Region::GamePakRomWs0 => Some(BusWidth::Bits16),
+        Region::GamePakRomWs1 => Some(BusWidth::Bits16),
+        Region::GamePakRomWs2 => Some(BusWidth::Bits16),
+        Region::GamePakSram => Some(BusWidth::Bits8),
+        Region::UnusedHigh => None,
     }
 }
 
@@ -98,23 +98,23 @@ pub fn is_game_pak_rom(region: Region) -> bool
     }
 }
 
-// Ported for completeness: nothing calls it yet; the page tables to come will.
-pub fn physical_size(region: Region) -> RegionSize
+// The unused areas have no memory. Ported for completeness: nothing calls it yet; the page tables to come will.
+pub fn physical_size(region: Region) -> Option<usize>
     ensures { result ≡ map.physical_size region }
 {
     match region {
-        Region::Bios => RegionSize::Bytes(BIOS_SIZE),
-        Region::UnusedLow => RegionSize::NoMemory,
-        Region::Ewram => RegionSize::Bytes(EWRAM_SIZE),
-        Region::Iwram => RegionSize::Bytes(IWRAM_SIZE),
-        Region::Io => RegionSize::Bytes(IO_SIZE),
-        Region::Palette => RegionSize::Bytes(PALETTE_SIZE),
-        Region::Vram => RegionSize::Bytes(VRAM_SIZE),
-        Region::Oam => RegionSize::Bytes(OAM_SIZE),
-        Region::GamePakRomWs0 => RegionSize::Bytes(ROM_WINDOW_SIZE),
-        Region::GamePakRomWs1 => RegionSize::Bytes(ROM_WINDOW_SIZE),
-        Region::GamePakRomWs2 => RegionSize::Bytes(ROM_WINDOW_SIZE),
-        Region::GamePakSram => RegionSize::Bytes(SRAM_WINDOW_SIZE),
-        Region::UnusedHigh => RegionSize::NoMemory,
+        Region::Bios => Some(BIOS_SIZE),
+        Region::UnusedLow => None,
+        Region::Ewram => Some(EWRAM_SIZE),
+        Region::Iwram => Some(IWRAM_SIZE),
+        Region::Io => Some(IO_SIZE),
+        Region::Palette => Some(PALETTE_SIZE),
+        Region::Vram => Some(VRAM_SIZE),
+        Region::Oam => Some(OAM_SIZE),
+        Region::GamePakRomWs0 => Some(ROM_WINDOW_SIZE),
+        Region::GamePakRomWs1 => Some(ROM_WINDOW_SIZE),
+        Region::GamePakRomWs2 => Some(ROM_WINDOW_SIZE),
+        Region::GamePakSram => Some(SRAM_WINDOW_SIZE),
+        Region::UnusedHigh => None,
     }
 }

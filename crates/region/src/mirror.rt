@@ -4,7 +4,6 @@ ghost use Rattle.std.specs.Prelude.{◌≡◌};
 ghost use Rattle.model.specs.Mirror as mirrored;
 
 use super::{EWRAM_SIZE, IWRAM_SIZE, OAM_SIZE, PALETTE_SIZE, ROM_WINDOW_SIZE, SRAM_WINDOW_SIZE};
-use model::Offset;
 
 // Each of these memories repeats over its page.
 pub fn ewram_offset(addr: u32) -> usize
@@ -66,30 +65,30 @@ pub fn sram_chip_offset(addr: u32) -> usize
 
 // The registers stand once; the word at 0x800 repeats every 64 KiB.
 #[tactic(auto, unfolding(model::specs::Mirror::io_offset))]
-pub fn io_offset(addr: u32) -> Offset
+pub fn io_offset(addr: u32) -> Option<usize>
     ensures { result ≡ mirrored.io_offset addr }
 {
     if addr / 0x100_0000 != 0x04 {
-        return Offset::Unbacked;
+        return None;
     }
     let page_off = addr % 0x1_0000;
     if (0x800 <= page_off) & (page_off < 0x804) {
-        return Offset::At(page_off as usize);
+        return Some(page_off as usize);
     }
     if addr < 0x0400_0400 {
-        return Offset::At((addr - 0x0400_0000) as usize);
+        return Some((addr - 0x0400_0000) as usize);
     }
-    Offset::Unbacked
+    None
 }
 
 // The BIOS doesn't repeat. Ported for completeness: nothing calls it yet.
 #[tactic(auto, unfolding(model::specs::Mirror::bios_offset))]
-pub fn bios_offset(addr: u32) -> Offset
+pub fn bios_offset(addr: u32) -> Option<usize>
     ensures { result ≡ mirrored.bios_offset addr }
 {
     if addr < 0x4000 {
-        Offset::At(addr as usize)
+        Some(addr as usize)
     } else {
-        Offset::Unbacked
+        None
     }
 }

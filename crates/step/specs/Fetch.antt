@@ -1,6 +1,7 @@
 -- An opcode fetched through the buffer, and a FETCH: the laws by which what was found makes the step.
 use Rattle.std.specs.Prelude.{◌≡◌, ℕ, ◌<◌, Bool, true, false, List, [], slice_index_or, refl}
 use Rattle.std.proofs.Common.{sym, ap, ap₂, ◌∙◌, arith, add-zero}
+use Rattle.std.specs.Prelude.{Option, Some, None}
 use Rattle.model.specs.Base.{further}
 use Rattle.model.specs.Waitcnt.{Waits, rom_waits_of}
 use Rattle.model.specs.Wait.{window}
@@ -13,8 +14,6 @@ use Rattle.model.proofs.Laws.Choice.{choose, either}
 use Rattle.model.proofs.Laws.Rules.{missed_again}
 use Rattle.model.proofs.Laws.Switch.{restart_fetched}
 use Rattle.prefetch.specs.Found.{found}
-use Rattle.prefetch.specs.declared.Half.{Half}
-use Rattle.prefetch.specs.declared.Half.TheVariants.{Found, Missed}
 use Rattle.model.specs.declared.PrefetchBuffer.{PrefetchBuffer}
 use Rattle.model.specs.declared.Clock.{Clock}
 use Rattle.model.specs.declared.Contents.{Contents}
@@ -84,17 +83,17 @@ fetching c d a value hits =
 abbrev Fetches : Clock → List ℕ → Contents → ℕ → ℕ → ℕ → Type 0
 Fetches c h d a value hits = fetching c d a value hits ≡ begun (media_from [] [] no_lengths) (state_from c h d []) (Fetch a)
 
-pub fetch_hits : (c : Clock) (h : List ℕ) (d : Contents) (a v : ℕ) → found h c.prefetch a ≡ Found v → Fetches c h d a v 1
+pub fetch_hits : (c : Clock) (h : List ℕ) (d : Contents) (a v : ℕ) → found h c.prefetch a ≡ Some v → Fetches c h d a v 1
 unfolding found half_at
 fetch_hits c h d a v =
-    choose (λ (f : Half). f ≡ Found v → Fetches c h d a v 1) (hit c.prefetch a)
+    choose (λ (f : Option ℕ). f ≡ Some v → Fetches c h d a v 1) (hit c.prefetch a)
     (λ e f. let same : slice_index_or h c.prefetch.head 0 ≡ v = cc in simp (e, same))
     (λ e f. let z : ◌≡◌ {A = ℕ} 0 1 = cc in absurd (omega arith))
 
-pub fetch_misses : (c : Clock) (h : List ℕ) (d : Contents) (a : ℕ) → found h c.prefetch a ≡ Missed → Fetches c h d a 0 0
+pub fetch_misses : (c : Clock) (h : List ℕ) (d : Contents) (a : ℕ) → found h c.prefetch a ≡ None → Fetches c h d a 0 0
 unfolding found half_at
 fetch_misses c h d a =
-    choose (λ (f : Half). f ≡ Missed → Fetches c h d a 0 0) (hit c.prefetch a)
+    choose (λ (f : Option ℕ). f ≡ None → Fetches c h d a 0 0) (hit c.prefetch a)
     (λ e f. let z : ◌≡◌ {A = ℕ} 0 1 = cc in absurd (omega arith))
     (λ e f. simp e)
 

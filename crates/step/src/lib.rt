@@ -25,9 +25,8 @@ use loads::{Bus, Media};
 use machine::Machine;
 use model::{
     AccessSize, Answer, Clock, Contents, IsaState, Lengths, PrefetchBuffer, Previous, Region, Step,
-    Target, TimingInput, Version, VideoMemory, Windowed,
+    Target, TimingInput, Version, VideoMemory,
 };
-use prefetch::Half;
 use stores::saturating_add;
 use waits::waitcnt::WaitCnt;
 
@@ -432,7 +431,7 @@ fn fetch_step(machine: Machine, halves: &[u16; 8], addr: u32) -> Begun
     let prefetch = fetched.prefetch;
     let half = fetched.half;
     let after = cleared(with_prefetch(clock, prefetch));
-    let Half::Found(value) = half else {
+    let Some(value) = half else {
         return unanswered(after, contents, 0, 0);
     };
     Begun {
@@ -492,7 +491,7 @@ fn fetch_code(buffer: PrefetchBuffer, isa: IsaState, addr: u32, waits: [[u8; 2];
     requires { buffer.head < 8 }
     ensures { result ≡ code_fetch waits buffer addr isa }
 {
-    let Windowed::In(_window) = waits::window_from_addr(addr) else {
+    let Some(_window) = waits::window_from_addr(addr) else {
         return CodeFetch {
             prefetch: buffer,
             hits: 0,

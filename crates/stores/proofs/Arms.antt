@@ -9,6 +9,7 @@ use lib.ListN.{length}
 use lib.Dec.{ltb, leb, lit<, lit≤}
 use borrow.Author.Tests.{ltb-false, le-leb}
 use Rattle.std.specs.Prelude.{if◌then◌else◌}
+use Rattle.std.specs.Prelude.{Option, Some, None}
 use Rattle.model.specs.Base.{bit, lowered, byte_of}
 use Rattle.model.specs.Region.{vram_size}
 use Rattle.model.specs.Video.{obj_vram_base, is_obj_vram, fills}
@@ -27,8 +28,6 @@ use Rattle.video.specs.Actions.{vram_target, vram_class, doubled, fills_halfword
 use Rattle.video.specs.declared.VideoTarget.{VideoTarget}
 use Rattle.video.specs.declared.VideoWriteAction.{VideoWriteAction}
 use Rattle.video.specs.declared.VideoWriteAction.TheVariants.{Store, ExpandByteToHalfword, Ignore, Reject}
-use Rattle.video.specs.declared.VramTarget.{VramTarget}
-use Rattle.video.specs.declared.VramTarget.TheVariants.{Within, Outside}
 
 -- ---- byte stores to video memory
 
@@ -69,15 +68,15 @@ not_filled p i v e f = rw e (drops f)
 
 -- ---- the place in VRAM, by its class
 
-class_case : (t : Bool) {u : VideoTarget} → Within (vram_target t) ≡ Within u → fills_halfword u ≡ not t
+class_case : (t : Bool) {u : VideoTarget} → Some (vram_target t) ≡ Some u → fills_halfword u ≡ not t
 class_case true e = cc
 class_case false e = cc
 
-pub within_fills : (mode i : ℕ) {m : ℕ} {x : VramTarget} {t : VideoTarget} → m ≡ mode → x ≡ vram_class i m → x ≡ Within t
+pub within_fills : (mode i : ℕ) {m : ℕ} {x : Option VideoTarget} {t : VideoTarget} → m ≡ mode → x ≡ vram_class i m → x ≡ Some t
     → fills_halfword t ≡ fills mode VideoRam i
 unfolding vram_class
 within_fills mode i {m} {x} {t} p e f =
-    choose (λ (y : VramTarget). y ≡ Within t → fills_halfword t ≡ fills mode VideoRam i) (ltb i vram_size)
+    choose (λ (y : Option VideoTarget). y ≡ Some t → fills_halfword t ≡ fills mode VideoRam i) (ltb i vram_size)
     (λ h. class_case (is_obj_vram mode i))
     (λ h g. let z : ◌≡◌ {A = ℕ} 0 1 = cc in absurd (omega arith))
     (ap (vram_class i) (sym p) ∙ sym e ∙ f)
@@ -87,11 +86,11 @@ unfolding obj_vram_base
 base_within mode = either (λ (n : ℕ). n ≤ vram_size) (leb mode 2) (lit≤ tt) (lit≤ tt)
 
 -- past its 96 KiB nothing is filled
-pub outside_drops : (mode i : ℕ) {m : ℕ} {x : VramTarget} → m ≡ mode
-    → x ≡ vram_class i m → x ≡ Outside → false ≡ fills mode VideoRam i
+pub outside_drops : (mode i : ℕ) {m : ℕ} {x : Option VideoTarget} → m ≡ mode
+    → x ≡ vram_class i m → x ≡ None → false ≡ fills mode VideoRam i
 unfolding vram_class is_obj_vram
 outside_drops mode i {m} {x} p e f =
-    choose (λ (y : VramTarget). y ≡ Outside → false ≡ fills mode VideoRam i) (ltb i vram_size)
+    choose (λ (y : Option VideoTarget). y ≡ None → false ≡ fills mode VideoRam i) (ltb i vram_size)
     (λ h g. let z : ◌≡◌ {A = ℕ} 0 1 = cc in absurd (omega arith))
     (λ h g. sym (ap not (le-leb (obj_vram_base mode) i (omega (arith, base_within mode, ltb-false i vram_size h)))))
     (ap (vram_class i) (sym p) ∙ sym e ∙ f)

@@ -17,7 +17,7 @@ ghost use Rattle.video.specs.Actions.{fills_halfword};
 use le::lane;
 use model::{AccessSize, Lengths, Part, Target, VideoMemory};
 use parts::{Stored, byte_in, put, put_half, put_word};
-use video::{VideoTarget, VideoWriteAction, VramTarget};
+use video::{VideoTarget, VideoWriteAction};
 use waits::size_bytes;
 
 // A counter stops at its greatest number.
@@ -47,7 +47,7 @@ fn vram_target(index: usize, store: &[u8], lengths: Lengths) -> VideoTarget
     ensures { fills_halfword result ≡ fills (def.mode_of lengths store.now) VideoRam index }
 {
     let mode = dispcnt_bg_mode(store, lengths);
-    let VramTarget::Within(target) = video::classify_vram_offset(index as u32, mode) else {
+    let Some(target) = video::classify_vram_offset(index as u32, mode) else {
         return VideoTarget::ObjVram;
     };
     target

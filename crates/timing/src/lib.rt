@@ -15,7 +15,7 @@ ghost use Rattle.timing.specs.Fetch.{PlainPrice, fetch_price};
 use disable_bug::DisableBugInput;
 use model::{
     AccessKind, AccessSize, InsnCycles, IsaState, PrefetchBuffer, Previous, Region, RomWindow, TimingInput,
-    Version, Windowed,
+    Version,
 };
 
 pub mod disable_bug;
@@ -103,7 +103,7 @@ fn price_fetch(
     requires { SmallWaits waits }
     ensures { result ≡ fetch_price waits prefetch addr kind isa }
 {
-    let Windowed::In(window) = waits::window_from_addr(addr) else {
+    let Some(window) = waits::window_from_addr(addr) else {
         let cycles = price_plain(addr, isa);
         return FetchPrice {
             cycles,

@@ -2,6 +2,7 @@
 -- From GBATEK, "GBA Unpredictable Things" (8-bit writes to video memory); src/bus/video.rs.
 use Rattle.std.specs.Prelude.{Bool, true, false, ℕ, ◌*◌, ltb}
 use Rattle.std.specs.Prelude.{if◌then◌else◌}
+use Rattle.std.specs.Prelude.{Option, Some, None}
 use Rattle.model.specs.Region.{vram_size}
 use Rattle.model.specs.Video.{is_obj_vram}
 use Rattle.model.specs.declared.AccessSize.{AccessSize}
@@ -10,8 +11,6 @@ use Rattle.video.specs.declared.VideoTarget.{VideoTarget}
 use Rattle.video.specs.declared.VideoTarget.TheVariants.{Palette, Oam, BgVram, ObjVram}
 use Rattle.video.specs.declared.VideoWriteAction.{VideoWriteAction}
 use Rattle.video.specs.declared.VideoWriteAction.TheVariants.{Store, ExpandByteToHalfword, Ignore, Reject}
-use Rattle.video.specs.declared.VramTarget.{VramTarget}
-use Rattle.video.specs.declared.VramTarget.TheVariants.{Within, Outside}
 
 -- VRAM holds the background's data and the objects' tiles
 abbrev pub vram_target : Bool → VideoTarget
@@ -19,8 +18,8 @@ vram_target true = ObjVram
 vram_target false = BgVram
 
 -- which of them stands at a place of its 96 KiB
-unfoldable pub vram_class : ℕ → ℕ → VramTarget
-vram_class offset mode = if ltb offset vram_size then Within (vram_target (is_obj_vram mode offset)) else Outside
+unfoldable pub vram_class : ℕ → ℕ → Option VideoTarget
+vram_class offset mode = if ltb offset vram_size then Some (vram_target (is_obj_vram mode offset)) else None
 
 -- a byte in both halves of a halfword
 abbrev pub doubled : ℕ → ℕ

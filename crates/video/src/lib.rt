@@ -21,13 +21,6 @@ pub enum VideoTarget {
     ObjVram,
 }
 
-// `Option<VideoTarget>`: VRAM ends at 96 KiB.
-#[derive(Clone, Copy)]
-pub enum VramTarget {
-    Within(VideoTarget),
-    Outside,
-}
-
 // What becomes of the store: all of it lands, its byte fills a halfword, it is dropped, or its size is refused.
 #[derive(Clone, Copy)]
 pub enum VideoWriteAction {
@@ -56,18 +49,18 @@ pub fn obj_vram_base(dispcnt_bg_mode: u8) -> u32
     }
 }
 
-// What stands at a place of VRAM.
+// What stands at a place of VRAM, which ends at 96 KiB.
 #[tactic(auto, unfolding(model::specs::Video::is_obj_vram, model::specs::Video::obj_vram_base, crate::specs::Actions::vram_class))]
-pub fn classify_vram_offset(offset: u32, dispcnt_bg_mode: u8) -> VramTarget
+pub fn classify_vram_offset(offset: u32, dispcnt_bg_mode: u8) -> Option<VideoTarget>
     ensures { result ≡ actions.vram_class offset dispcnt_bg_mode }
 {
     if region::VRAM_SIZE <= offset as usize {
-        return VramTarget::Outside;
+        return None;
     }
     if obj_vram_base(dispcnt_bg_mode) <= offset {
-        VramTarget::Within(VideoTarget::ObjVram)
+        Some(VideoTarget::ObjVram)
     } else {
-        VramTarget::Within(VideoTarget::BgVram)
+        Some(VideoTarget::BgVram)
     }
 }
 

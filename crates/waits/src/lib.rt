@@ -7,7 +7,7 @@ ghost use Rattle.std.specs.Prelude.{◌≡◌};
 ghost use Rattle.model.specs.Waitcnt as reg;
 ghost use Rattle.model.specs.Wait as def;
 
-use model::{AccessKind, AccessSize, RomWindow, Windowed};
+use model::{AccessKind, AccessSize, RomWindow};
 use waitcnt::WaitCnt;
 
 pub mod waitcnt;
@@ -64,16 +64,16 @@ pub fn rom_waits(register: WaitCnt) -> [[u8; 2]; 3]
     [[n0, s0], [n1, s1], [n2, s2]]
 }
 
-// `RomWindow::from_addr`: the ROM window of an address, by its top byte.
+// `RomWindow::from_addr`: the ROM window of an address, if it has one, by its top byte.
 #[tactic(auto, unfolding(model::specs::Wait::window))]
-pub fn window_from_addr(addr: u32) -> Windowed
+pub fn window_from_addr(addr: u32) -> Option<RomWindow>
     ensures { result ≡ def.window addr }
 {
     match addr / 0x100_0000 {
-        0x08 | 0x09 => Windowed::In(RomWindow::Ws0),
-        0x0A | 0x0B => Windowed::In(RomWindow::Ws1),
-        0x0C | 0x0D => Windowed::In(RomWindow::Ws2),
-        _ => Windowed::Outside,
+        0x08 | 0x09 => Some(RomWindow::Ws0),
+        0x0A | 0x0B => Some(RomWindow::Ws1),
+        0x0C | 0x0D => Some(RomWindow::Ws2),
+        _ => None,
     }
 }
 
@@ -81,10 +81,7 @@ pub fn window_from_addr(addr: u32) -> Windowed
 pub fn in_window(addr: u32) -> bool
     ensures { result ≡ def.in_window addr }
 {
-    match window_from_addr(addr) {
-        Windowed::In(_) => true,
-        Windowed::Outside => false,
-    }
+    window_from_addr(addr).is_some()
 }
 
 // `AccessSize::bytes`.

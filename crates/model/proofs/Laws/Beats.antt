@@ -9,6 +9,7 @@ use Rattle.std.proofs.Math.Nat.{sub-zero}
 use Rattle.std.proofs.Math.Dec.{ltb, leb}
 use borrow.Author.Tests.{le-leb, lt-leb}
 use Rattle.std.specs.Prelude.{if◌then◌else◌}
+use Rattle.std.specs.Prelude.{Option, Some, None}
 use Rattle.model.specs.Base.{further}
 use Rattle.model.specs.Waitcnt.{Waits}
 use Rattle.model.specs.Wait.{window, is_in, in_window}
@@ -17,9 +18,8 @@ use Rattle.model.specs.Prefetch.{advance, ready, tick1, ticks, arrives, slot, fi
 use Rattle.model.proofs.Laws.Choice.{choose, either, by_test, if_true, if_false, never, and-true, and_true_right, parts}
 use Rattle.model.proofs.Laws.Switch.{ready_switch}
 use Rattle.model.proofs.Laws.Rules.{ticks_rest, tick1_off}
+use Rattle.model.specs.declared.RomWindow.{RomWindow}
 use Rattle.model.specs.declared.PrefetchBuffer.{PrefetchBuffer}
-use Rattle.model.specs.declared.Windowed.{Windowed}
-use Rattle.model.specs.declared.Windowed.TheVariants.{In, Outside}
 
 module _ (t : Waits) where
   -- ---- a buffer with no beat to start: one is in flight, the buffer is full, or the next address has no window
@@ -31,11 +31,11 @@ module _ (t : Waits) where
   unfolding ready
   busy_awake p f = if_false _ _ _ (ap (λ (s : Bool). not s && ltb p.count capacity && in_window p.next_addr) f)
 
-  beat_in_awake : (p : PrefetchBuffer) (v : Windowed) → window p.next_addr ≡ v → Awake (beat_in t p v)
+  beat_in_awake : (p : PrefetchBuffer) (v : Option RomWindow) → window p.next_addr ≡ v → Awake (beat_in t p v)
   unfolding ready
-  beat_in_awake p (In win) e = refl
-  beat_in_awake p Outside e =
-      choose (λ (q : PrefetchBuffer). q ≡ beat_in t p Outside) (ltb p.count capacity && in_window p.next_addr)
+  beat_in_awake p (Some win) e = refl
+  beat_in_awake p None e =
+      choose (λ (q : PrefetchBuffer). q ≡ beat_in t p None) (ltb p.count capacity && in_window p.next_addr)
       (λ h. never (and_true_right (ltb p.count capacity) (in_window p.next_addr) h) (ap is_in e))
       (λ h. refl)
 
@@ -76,9 +76,9 @@ module _ (t : Waits) where
 
   -- ---- the start: the first cycle starts a beat where one can start
 
-  beat_in_fills : (p : PrefetchBuffer) (v : Windowed) → is_in v ≡ true → (beat_in t p v).filling ≡ true
-  beat_in_fills p (In win) i = refl
-  beat_in_fills p Outside i = i
+  beat_in_fills : (p : PrefetchBuffer) (v : Option RomWindow) → is_in v ≡ true → (beat_in t p v).filling ≡ true
+  beat_in_fills p (Some win) i = refl
+  beat_in_fills p None i = i
 
   start_beat_fills : (p : PrefetchBuffer) → in_window p.next_addr ≡ true → (start_beat t p).filling ≡ true
   unfolding start_beat
@@ -122,9 +122,9 @@ module _ (t : Waits) where
     slots : slot q ≡ slot p
     next : q.next_addr ≡ p.next_addr
 
-  beat_in_place : (p : PrefetchBuffer) (v : Windowed) → Place p (beat_in t p v)
-  beat_in_place p (In win) = record { slots = refl; next = refl }
-  beat_in_place p Outside = record { slots = refl; next = refl }
+  beat_in_place : (p : PrefetchBuffer) (v : Option RomWindow) → Place p (beat_in t p v)
+  beat_in_place p (Some win) = record { slots = refl; next = refl }
+  beat_in_place p None = record { slots = refl; next = refl }
 
   ready_place : (p : PrefetchBuffer) → Place p (ready t p)
   unfolding ready start_beat

@@ -1,6 +1,7 @@
 -- The least and the most that a beat, an access, a fetch and a step cost.
 use Rattle.std.specs.Prelude.{Bool, true, false, ◌&&◌, List, [], ◌∷◌, ℕ, zero, suc, ◌*◌, ◌/◌, ◌%◌, ◌≤◌, length, get_or, T, leb, eqb}
 use Rattle.std.proofs.Common.{arith, leb→le, lit≤}
+use Rattle.std.specs.Prelude.{Option, Some, None}
 use Rattle.model.specs.Base.{further}
 use Rattle.model.specs.Region.{decode, page}
 use Rattle.model.specs.Waitcnt.{Waits, n_waits, s_waits, rom_waits_of}
@@ -22,8 +23,6 @@ use Rattle.model.specs.declared.Region.TheVariants.{Bios, UnusedLow, Ewram, Iwra
 use Rattle.model.specs.declared.Region.TheVariants.{GamePakRomWs0, GamePakRomWs1, GamePakRomWs2, GamePakSram, UnusedHigh}
 use Rattle.model.specs.declared.RomWindow.{RomWindow}
 use Rattle.model.specs.declared.RomWindow.TheVariants.{Ws0, Ws1, Ws2}
-use Rattle.model.specs.declared.Windowed.{Windowed}
-use Rattle.model.specs.declared.Windowed.TheVariants.{In, Outside}
 use Rattle.model.specs.declared.AccessKind.{AccessKind}
 use Rattle.model.specs.declared.AccessKind.TheVariants.{Nonseq, Seq}
 use Rattle.model.specs.declared.AccessSize.{AccessSize}
@@ -140,15 +139,15 @@ plain_regular : (a : ℕ) (isa : IsaState) → Regular (plain_beat a isa)
 unfolding plain_beat
 plain_regular a isa = either Regular (eqb (page a) 0x02) tt tt
 
-pub fetch_beats_in_law : (p : PrefetchBuffer) (a : ℕ) (k : AccessKind) (isa : IsaState) (v : Windowed)
+pub fetch_beats_in_law : (p : PrefetchBuffer) (a : ℕ) (k : AccessKind) (isa : IsaState) (v : Option RomWindow)
     → Beats (fetch_beats_in p a k isa v)
-fetch_beats_in_law p a k Thumb (In win) = one_beat (half_beat p a win k) (half_regular p a win k)
-fetch_beats_in_law p a k Arm (In win) =
+fetch_beats_in_law p a k Thumb (Some win) = one_beat (half_beat p a win k) (half_regular p a win k)
+fetch_beats_in_law p a k Arm (Some win) =
     two_beats (half_beat p a win k) (half_beat p (further 2 a) win Seq)
     (half_regular p a win k) (half_regular p (further 2 a) win Seq)
-fetch_beats_in_law p a k isa Outside = one_beat (plain_beat a isa) (plain_regular a isa)
+fetch_beats_in_law p a k isa None = one_beat (plain_beat a isa) (plain_regular a isa)
 
-pub fetch_between : (t : Waits) → SmallWaits t → (p : PrefetchBuffer) (a : ℕ) (k : AccessKind) (isa : IsaState) (v : Windowed)
+pub fetch_between : (t : Waits) → SmallWaits t → (p : PrefetchBuffer) (a : ℕ) (k : AccessKind) (isa : IsaState) (v : Option RomWindow)
     → Between 1 18 (price t (fetch_beats_in p a k isa v))
 fetch_between t small p a k isa v = price_between t small (fetch_beats_in p a k isa v) (fetch_beats_in_law p a k isa v)
 
@@ -159,9 +158,9 @@ unfolding plain_beat
 plain≤6 t a isa =
     either (λ (b : Beat). beat_cycles t b ≤ 6) (eqb (page a) 0x02) (omega (arith, ewram_between (code_size isa))) (omega arith)
 
-pub idle_in≤6 : (t : Waits) (a : ℕ) (isa : IsaState) (v : Windowed) → idle_in t a isa v ≤ 6
-idle_in≤6 t a isa (In win) = omega arith
-idle_in≤6 t a isa Outside = plain≤6 t a isa
+pub idle_in≤6 : (t : Waits) (a : ℕ) (isa : IsaState) (v : Option RomWindow) → idle_in t a isa v ≤ 6
+idle_in≤6 t a isa (Some win) = omega arith
+idle_in≤6 t a isa None = plain≤6 t a isa
 
 pub cart_idle≤7 : (t : Waits) (v : Version) (isa : IsaState) (a raw : ℕ) → cart_idle_of t v isa a raw ≤ 7
 unfolding cart_idle_of
@@ -179,9 +178,9 @@ rom_hits≤2 : (p : PrefetchBuffer) (a : ℕ) (isa : IsaState) → rom_hits p a 
 rom_hits≤2 p a Thumb = omega (arith, bit≤1 (hit p a))
 rom_hits≤2 p a Arm = omega (arith, bit≤1 (hit p a), bit≤1 (hit (fetched p a) (further 2 a)))
 
-hits_in≤2 : (p : PrefetchBuffer) (a : ℕ) (isa : IsaState) (v : Windowed) → hits_in p a isa v ≤ 2
-hits_in≤2 p a isa (In win) = rom_hits≤2 p a isa
-hits_in≤2 p a isa Outside = omega arith
+hits_in≤2 : (p : PrefetchBuffer) (a : ℕ) (isa : IsaState) (v : Option RomWindow) → hits_in p a isa v ≤ 2
+hits_in≤2 p a isa (Some win) = rom_hits≤2 p a isa
+hits_in≤2 p a isa None = omega arith
 
 pub step_bounded : (c : Clock) (x : Step) → Bounded (weight x) (timed c x)
 unfolding price_insn fetch_beats code_hits

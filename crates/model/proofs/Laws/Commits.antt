@@ -7,15 +7,15 @@ use Rattle.std.proofs.Math.Bool.{true}
 use Prim.Native.Nat.{ℕ, zero, suc, ◌+◌, ◌-◌, ◌%◌}
 use Rattle.std.proofs.Math.Dec.{ltb, leb}
 use Rattle.std.specs.Prelude.{if◌then◌else◌}
+use Rattle.std.specs.Prelude.{Option, Some, None}
 use Rattle.model.specs.Base.{further}
 use Rattle.model.specs.Waitcnt.{Waits}
 use Rattle.model.specs.Wait.{window, in_window}
 use Rattle.model.specs.Prefetch.{capacity, beat_in, start_beat, arrived, ended, advance}
 use Rattle.model.specs.Prefetch.{ready, tick1, ticks, arrives, slot, filled}
 use Rattle.model.proofs.Laws.Choice.{choose, either, by_test, never, and-true, parts}
+use Rattle.model.specs.declared.RomWindow.{RomWindow}
 use Rattle.model.specs.declared.PrefetchBuffer.{PrefetchBuffer}
-use Rattle.model.specs.declared.Windowed.{Windowed}
-use Rattle.model.specs.declared.Windowed.TheVariants.{In, Outside}
 use Rattle.model.specs.Laws.Commits.{along, commits, Grown, Apart}
 
 same_size : (p : PrefetchBuffer) → Grown p p 0
@@ -24,9 +24,9 @@ same_size p = record { head = refl; count = omega arith; next = refl }
 module _ (t : Waits) where
   -- ---- one idle cycle
 
-  beat_in_same : (p : PrefetchBuffer) (v : Windowed) → Grown p (beat_in t p v) 0
-  beat_in_same p (In win) = record { head = refl; count = omega arith; next = refl }
-  beat_in_same p Outside = record { head = refl; count = omega arith; next = refl }
+  beat_in_same : (p : PrefetchBuffer) (v : Option RomWindow) → Grown p (beat_in t p v) 0
+  beat_in_same p (Some win) = record { head = refl; count = omega arith; next = refl }
+  beat_in_same p None = record { head = refl; count = omega arith; next = refl }
 
   start_beat_same : (p : PrefetchBuffer) → Grown p (start_beat t p) 0
   unfolding start_beat

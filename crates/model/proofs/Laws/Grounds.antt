@@ -5,6 +5,7 @@ use Rattle.std.proofs.Common.{sym, ap, ap₂, ◌∙◌, true≢false, arith, le
 use Rattle.std.proofs.lemmas.Bool.{false≢true}
 use Rattle.std.proofs.lemmas.List.{length-map}
 use Rattle.std.specs.Prelude.{if◌then◌else◌}
+use Rattle.std.specs.Prelude.{Option, Some, None}
 use Rattle.model.specs.Base.{bit, same, sum, further, Exactly}
 use Rattle.model.specs.Region.{page, decode, bios_size}
 use Rattle.model.specs.Waitcnt.{Waits, rom_waits_of, sram_waits}
@@ -27,14 +28,10 @@ use Rattle.model.specs.Laws.Bounds.{Short}
 use Rattle.model.specs.declared.Ground.{Ground}
 use Rattle.model.specs.declared.Ground.TheVariants.{BufferHit, Sequential, ByFlag, ByBlock, ByAddress}
 use Rattle.model.specs.declared.Ground.TheVariants.{EwramBus, SramBus, VideoBus, Fast}
-use Rattle.model.specs.declared.BeatGround.{BeatGround}
-use Rattle.model.specs.declared.BeatGround.TheVariants.{By, NoBeat}
 use Rattle.model.specs.declared.Clock.{Clock}
 use Rattle.model.specs.declared.PrefetchBuffer.{PrefetchBuffer}
 use Rattle.model.specs.declared.Region.{Region}
 use Rattle.model.specs.declared.RomWindow.{RomWindow}
-use Rattle.model.specs.declared.Windowed.{Windowed}
-use Rattle.model.specs.declared.Windowed.TheVariants.{In, Outside}
 use Rattle.model.specs.declared.AccessKind.{AccessKind}
 use Rattle.model.specs.declared.AccessKind.TheVariants.{Nonseq, Seq}
 use Rattle.model.specs.declared.AccessSize.{AccessSize}
@@ -48,7 +45,7 @@ use Rattle.model.specs.Laws.Grounds.{is_beat, every_ground, bus_window, Few}
 
 -- ---- a byte says which ground it is
 
-pub byte_back : (g : Ground) → beat_ground (ground_byte g) ≡ By g
+pub byte_back : (g : Ground) → beat_ground (ground_byte g) ≡ Some g
 unfolding beat_ground
 byte_back BufferHit = refl
 byte_back Sequential = refl
@@ -64,7 +61,7 @@ byte_back Fast = refl
 pub one_byte : (g h : Ground) → ground_byte g ≡ ground_byte h → g ≡ h
 one_byte g h e = by_ground (sym (byte_back g) ∙ ap beat_ground e ∙ byte_back h)
   where
-    by_ground : By g ≡ By h → g ≡ h
+    by_ground : Some g ≡ Some h → g ≡ h
     by_ground d = cc
 
 -- ---- each is named exactly when its condition decides the beat
@@ -176,19 +173,19 @@ block_test p a (suc n) j g =
     let rest = block_grounds (access_of Word a) (further 4 a) n in
     let many : length word ≡ beats = word_beats_law p a in
     choose (λ (t : Bool). is_beat (beat_at (word ++ rest) j) g ≡ t) (ltb j beats)
-    (λ e. ap (λ (b : BeatGround). is_beat b g) (beat_first word rest j (omega (arith, tests, many))) ∙ data_test p Word a j g)
+    (λ e. ap (λ (b : Option Ground). is_beat b g) (beat_first word rest j (omega (arith, tests, many))) ∙ data_test p Word a j g)
     (λ e.
-    ap (λ (b : BeatGround). is_beat b g) (beat_behind word rest j (j - beats) (omega (arith, tests, many)) (omega (arith, many)))
+    ap (λ (b : Option Ground). is_beat b g) (beat_behind word rest j (j - beats) (omega (arith, tests, many)) (omega (arith, many)))
     ∙ block_test (access_of Word a) (further 4 a) n (j - beats) g)
 
-fetch_test : (hits : ℕ → Bool) (forced : Bool) (isa : IsaState) (a j : ℕ) (g : Ground) (v : Windowed)
+fetch_test : (hits : ℕ → Bool) (forced : Bool) (isa : IsaState) (a j : ℕ) (g : Ground) (v : Option RomWindow)
     → is_beat (beat_at (fetch_grounds_in hits forced a isa v) j) g ≡ fetch_condition_in hits forced isa a j g v
 unfolding half_ground
-fetch_test hits forced isa a j g (In win) =
+fetch_test hits forced isa a j g (Some win) =
     wide_test (code_size isa) (half_ground hits forced a) (half_ground hits false (further 2 a))
     (half_condition (hits a) (force_nonseq a) forced) (half_condition (hits (further 2 a)) (force_nonseq (further 2 a)) false)
     (half_test (hits a) (force_nonseq a) forced) (half_test (hits (further 2 a)) (force_nonseq (further 2 a)) false) j g
-fetch_test hits forced isa a j g Outside =
+fetch_test hits forced isa a j g None =
     wide_test Byte (plain_ground a) (plain_ground a) (plain_condition a) (plain_condition a) (plain_test a) (plain_test a) j g
 
 step_test : (c : Clock) (x : Step) (j : ℕ) (g : Ground) → is_beat (beat_at (grounds c x) j) g ≡ condition c x j g
@@ -206,15 +203,15 @@ step_test c (BlockRead a n) j g = block_test (previous c) a n j g
 step_test c (BlockWrite a n) j g = block_test (previous c) a n j g
 
 -- a beat has a ground exactly when the test finds it
-beat_found : (b : BeatGround) (g : Ground) → b ≡ By g → is_beat b g ≡ true
-beat_found b g e = ap (λ (x : BeatGround). is_beat x g) e ∙ eq-eqb (ground_byte g) (ground_byte g) refl
+beat_found : (b : Option Ground) (g : Ground) → b ≡ Some g → is_beat b g ≡ true
+beat_found b g e = ap (λ (x : Option Ground). is_beat x g) e ∙ eq-eqb (ground_byte g) (ground_byte g) refl
 
-found_beat : (b : BeatGround) (g : Ground) → is_beat b g ≡ true → b ≡ By g
-found_beat NoBeat g e = absurd (false≢true e)
-found_beat (By h) g e = ap By (one_byte h g (eqb-true (ground_byte h) (ground_byte g) e))
+found_beat : (b : Option Ground) (g : Ground) → is_beat b g ≡ true → b ≡ Some g
+found_beat None g e = absurd (false≢true e)
+found_beat (Some h) g e = ap Some (one_byte h g (eqb-true (ground_byte h) (ground_byte g) e))
 
 pub named_exactly : (c : Clock) (x : Step) (j : ℕ) (g : Ground)
-    → Exactly (beat_at (grounds c x) j ≡ By g) (condition c x j g ≡ true)
+    → Exactly (beat_at (grounds c x) j ≡ Some g) (condition c x j g ≡ true)
 named_exactly c x j g = (
   λ h. sym (step_test c x j g) ∙ beat_found (beat_at (grounds c x) j) g h,
   λ h. found_beat (beat_at (grounds c x) j) g (step_test c x j g ∙ h),
@@ -237,11 +234,11 @@ bus_window_law a =
     p : ℕ
     p = page a
 
-    P : Windowed → Region → Type 0
+    P : Option RomWindow → Region → Type 0
     P v r = v ≡ bus_window (bus_of r)
 
     Q : Region → Type 0
-    Q r = Outside ≡ bus_window (bus_of r)
+    Q r = None ≡ bus_window (bus_of r)
 
 -- one beat or two, by the size
 wide_worth : (t : Waits) (f : Ground → ℕ) (z : AccessSize) (b c : Beat) (g h : Ground)
@@ -252,29 +249,29 @@ wide_worth t f Word b c g h e d = ap₂ (λ (n m : ℕ). n + (m + 0)) e d
 
 -- over a bus, where the first beat from ROM is of a kind that the ground tells
 bus_worth : (w : ℕ) (z : AccessSize) (k : AccessKind) (g : Ground)
-    → ((win : RomWindow) → rom_half_cycles (rom_waits_of w) win k ≡ ground_cycles w (In win) Half g) → (b : Bus)
+    → ((win : RomWindow) → rom_half_cycles (rom_waits_of w) win k ≡ ground_cycles w (Some win) Half g) → (b : Bus)
     → price (rom_waits_of w) (data_beats_on (sram_waits w) z k b)
     ≡ sum (map (ground_cycles w (bus_window b) Half) (data_grounds_on z g b))
 bus_worth w z k g first OnEwram =
-    wide_worth (rom_waits_of w) (ground_cycles w Outside Half) z (EwramBeat Half) (EwramBeat Half) EwramBus EwramBus refl refl
+    wide_worth (rom_waits_of w) (ground_cycles w None Half) z (EwramBeat Half) (EwramBeat Half) EwramBus EwramBus refl refl
 bus_worth w z k g first OnVideo =
-    wide_worth (rom_waits_of w) (ground_cycles w Outside Half) z VideoBeat VideoBeat VideoBus VideoBus refl refl
+    wide_worth (rom_waits_of w) (ground_cycles w None Half) z VideoBeat VideoBeat VideoBus VideoBus refl refl
 bus_worth w z k g first (OnRom win) =
-    wide_worth (rom_waits_of w) (ground_cycles w (In win) Half) z (RomBeat win k) (RomBeat win Seq) g Sequential (first win) refl
+    wide_worth (rom_waits_of w) (ground_cycles w (Some win) Half) z (RomBeat win k) (RomBeat win Seq) g Sequential (first win) refl
 bus_worth w z k g first OnSram = refl
 bus_worth w z k g first OnFast = refl
 
 -- the first beat from ROM
 kind_worth : (w : ℕ) (win : RomWindow) (k : AccessKind)
-    → rom_half_cycles (rom_waits_of w) win k ≡ ground_cycles w (In win) Half (kind_ground k)
+    → rom_half_cycles (rom_waits_of w) win k ≡ ground_cycles w (Some win) Half (kind_ground k)
 kind_worth w win Nonseq = refl
 kind_worth w win Seq = refl
 
 first_worth : (w : ℕ) (p : Previous) (n : ℕ) (win : RomWindow)
-    → rom_half_cycles (rom_waits_of w) win (kind_at n (kind_after p n)) ≡ ground_cycles w (In win) Half (first_ground p n)
+    → rom_half_cycles (rom_waits_of w) win (kind_at n (kind_after p n)) ≡ ground_cycles w (Some win) Half (first_ground p n)
 unfolding kind_at first_ground
 first_worth w p n win =
-    choose₂ (λ (k : AccessKind) (g : Ground). rom_half_cycles (rom_waits_of w) win k ≡ ground_cycles w (In win) Half g)
+    choose₂ (λ (k : AccessKind) (g : Ground). rom_half_cycles (rom_waits_of w) win k ≡ ground_cycles w (Some win) Half g)
     (force_nonseq n)
     (λ e. refl) (λ e. kind_worth w win (kind_after p n))
 
@@ -284,7 +281,7 @@ unfolding data_beats data_grounds
 data_worth w p z a =
     let n = aligned z a in
     bus_worth w z (kind_at n (kind_after p n)) (first_ground p n) (first_worth w p n) (bus_of (decode a))
-    ∙ ap (λ (v : Windowed). sum (map (ground_cycles w v Half) (data_grounds_on z (first_ground p n) (bus_of (decode a)))))
+    ∙ ap (λ (v : Option RomWindow). sum (map (ground_cycles w v Half) (data_grounds_on z (first_ground p n) (bus_of (decode a)))))
     (sym (bus_window_law a))
 
 -- and its words make a block's
@@ -301,35 +298,35 @@ block_worth w p a (suc n) =
 -- ---- a fetch
 
 flag_worth : (w : ℕ) (z : AccessSize) (win : RomWindow) (forced : Bool)
-    → rom_half_cycles (rom_waits_of w) win (nonseq_if forced) ≡ ground_cycles w (In win) z (if forced then ByFlag else Sequential)
+    → rom_half_cycles (rom_waits_of w) win (nonseq_if forced) ≡ ground_cycles w (Some win) z (if forced then ByFlag else Sequential)
 flag_worth w z win true = refl
 flag_worth w z win false = refl
 
 half_worth : (w : ℕ) (z : AccessSize) (p : PrefetchBuffer) (forced : Bool) (a : ℕ) (win : RomWindow)
     → beat_cycles (rom_waits_of w) (half_beat p a win (nonseq_if forced))
-    ≡ ground_cycles w (In win) z (half_ground (hit p) forced a)
+    ≡ ground_cycles w (Some win) z (half_ground (hit p) forced a)
 unfolding half_beat half_ground kind_at
 half_worth w z p forced a win =
-    choose₂ (λ (b : Beat) (g : Ground). beat_cycles (rom_waits_of w) b ≡ ground_cycles w (In win) z g) (hit p a) (λ e. refl)
-    λ e. choose₂ (λ (k : AccessKind) (g : Ground). rom_half_cycles (rom_waits_of w) win k ≡ ground_cycles w (In win) z g)
+    choose₂ (λ (b : Beat) (g : Ground). beat_cycles (rom_waits_of w) b ≡ ground_cycles w (Some win) z g) (hit p a) (λ e. refl)
+    λ e. choose₂ (λ (k : AccessKind) (g : Ground). rom_half_cycles (rom_waits_of w) win k ≡ ground_cycles w (Some win) z g)
     (force_nonseq a)
     (λ f. refl) (λ f. flag_worth w z win forced)
 
 plain_worth : (w : ℕ) (a : ℕ) (isa : IsaState)
-    → beat_cycles (rom_waits_of w) (plain_beat a isa) ≡ ground_cycles w Outside (code_size isa) (plain_ground a)
+    → beat_cycles (rom_waits_of w) (plain_beat a isa) ≡ ground_cycles w None (code_size isa) (plain_ground a)
 unfolding plain_beat plain_ground
 plain_worth w a isa =
-    choose₂ (λ (b : Beat) (g : Ground). beat_cycles (rom_waits_of w) b ≡ ground_cycles w Outside (code_size isa) g)
+    choose₂ (λ (b : Beat) (g : Ground). beat_cycles (rom_waits_of w) b ≡ ground_cycles w None (code_size isa) g)
     (eqb (page a) 0x02)
     (λ e. refl) (λ e. refl)
 
-fetch_worth_in : (w : ℕ) (p : PrefetchBuffer) (forced : Bool) (isa : IsaState) (a : ℕ) (v : Windowed)
+fetch_worth_in : (w : ℕ) (p : PrefetchBuffer) (forced : Bool) (isa : IsaState) (a : ℕ) (v : Option RomWindow)
     → price (rom_waits_of w) (fetch_beats_in p a (nonseq_if forced) isa v)
     ≡ sum (map (ground_cycles w v (code_size isa)) (fetch_grounds_in (hit p) forced a isa v))
-fetch_worth_in w p forced Thumb a (In win) = ap (λ (n : ℕ). n + 0) (half_worth w Half p forced a win)
-fetch_worth_in w p forced Arm a (In win) =
+fetch_worth_in w p forced Thumb a (Some win) = ap (λ (n : ℕ). n + 0) (half_worth w Half p forced a win)
+fetch_worth_in w p forced Arm a (Some win) =
     ap₂ (λ (n m : ℕ). n + (m + 0)) (half_worth w Word p forced a win) (half_worth w Word p false (further 2 a) win)
-fetch_worth_in w p forced isa a Outside = ap (λ (n : ℕ). n + 0) (plain_worth w a isa)
+fetch_worth_in w p forced isa a None = ap (λ (n : ℕ). n + 0) (plain_worth w a isa)
 
 fetch_worth : (w : ℕ) (p : PrefetchBuffer) (forced : Bool) (isa : IsaState) (a : ℕ)
     → price (rom_waits_of w) (fetch_beats p forced isa a)
@@ -412,11 +409,11 @@ data_few : (p : Previous) (z : AccessSize) (a : ℕ) → Few (data_grounds p z a
 unfolding data_grounds
 data_few p z a = bus_few z (first_ground p (aligned z a)) (bus_of (decode a))
 
-fetch_few_in : (hits : ℕ → Bool) (forced : Bool) (a : ℕ) (isa : IsaState) (v : Windowed)
+fetch_few_in : (hits : ℕ → Bool) (forced : Bool) (a : ℕ) (isa : IsaState) (v : Option RomWindow)
     → Few (fetch_grounds_in hits forced a isa v)
-fetch_few_in hits forced a isa (In win) =
+fetch_few_in hits forced a isa (Some win) =
     wide_few (code_size isa) (half_ground hits forced a) (half_ground hits false (further 2 a))
-fetch_few_in hits forced a isa Outside = omega arith
+fetch_few_in hits forced a isa None = omega arith
 
 fetch_few : (hits : ℕ → Bool) (forced : Bool) (isa : IsaState) (a : ℕ) → Few (fetch_grounds hits forced isa a)
 unfolding fetch_grounds

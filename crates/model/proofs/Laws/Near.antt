@@ -4,6 +4,7 @@ use Rattle.std.specs.Prelude.{◌≡◌, refl, Bool, true, false, ◌&&◌, ℕ,
 use Rattle.std.proofs.Common.{sym, ◌∙◌, ap, arith, eqb-true, ltb-true, ltb-false, lt-ltb, le-ltb, leb-true, leb-false, le-leb}
 use Rattle.std.proofs.lemmas.Bool.{lt-leb}
 use Rattle.std.specs.Prelude.{if◌then◌else◌}
+use Rattle.std.specs.Prelude.{Option}
 use Rattle.model.specs.Region.{page, decode}
 use Rattle.model.specs.Mirror.{vram_offset, io_offset}
 use Rattle.model.specs.Wait.{aligned}
@@ -15,7 +16,6 @@ use Rattle.model.specs.declared.Region.TheVariants.{GamePakRomWs0, GamePakRomWs1
 use Rattle.model.proofs.Laws.Sizes.{aligned_address}
 use Rattle.model.specs.declared.AccessSize.{AccessSize}
 use Rattle.model.specs.declared.AccessSize.TheVariants.{Byte, Half, Word}
-use Rattle.model.specs.declared.Offset.{Offset}
 use Rattle.model.specs.declared.Lengths.{Lengths}
 use Rattle.model.specs.declared.Part.{Part}
 use Rattle.model.specs.declared.VideoMemory.TheVariants.{PaletteRam, VideoRam, ObjectRam}
@@ -87,7 +87,7 @@ io_near p a b h =
     ap (io_target p) (io_tests a b h)
     ∙ io_case p a b h (eqb (page a) 0x04) (leb 0x800 (a % 0x10000) && ltb (a % 0x10000) 0x804) (ltb a 0x0400_0400)
     (λ t. omega (arith, eqb-true (page a) 0x04 t))
-    ∙ ap (λ (x : Offset). moved (io_target p x) (b % 4)) (sym (io_tests a a refl))
+    ∙ ap (λ (x : Option ℕ). moved (io_target p x) (b % 4)) (sym (io_tests a a refl))
 
 near_in : (l : Lengths) (a b : ℕ) → b / 4 ≡ a / 4 → (r : Region) → target_in l b r ≡ moved (target_in l a r) (b % 4)
 near_in l a b h Bios = refl

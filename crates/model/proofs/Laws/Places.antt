@@ -2,6 +2,7 @@
 -- the store, and a store whose lengths fit has at most the bytes of the seven memories.
 use Rattle.std.specs.Prelude.{◌≡◌, not, ◌&&◌, true, ℕ, ◌%◌, ◌≤◌, ◌<◌, eqb, ltb, leb}
 use Rattle.std.proofs.Common.{arith, eqb-true, ltb-true, leb-true}
+use Rattle.std.specs.Prelude.{Option, Some, None}
 use Rattle.model.specs.Region.{page, decode, bios_size, ewram_size, iwram_size, io_size}
 use Rattle.model.specs.Region.{palette_size, vram_size, oam_size, sram_size}
 use Rattle.model.specs.Mirror.{vram_offset}
@@ -13,8 +14,6 @@ use Rattle.model.specs.declared.Region.{Region}
 use Rattle.model.specs.declared.Region.TheVariants.{Bios, UnusedLow, Ewram, Iwram, Io, Palette, Vram, Oam}
 use Rattle.model.specs.declared.Region.TheVariants.{GamePakRomWs0, GamePakRomWs1, GamePakRomWs2, GamePakSram, UnusedHigh}
 use Rattle.model.specs.declared.Lengths.{Lengths}
-use Rattle.model.specs.declared.Offset.{Offset}
-use Rattle.model.specs.declared.Offset.TheVariants.{At, Unbacked}
 use Rattle.model.specs.Laws.Places.{Below, Within, Lies, sizes_small, Sized}
 
 pub vram_within : (a : ℕ) → vram_offset a < vram_size
@@ -52,9 +51,9 @@ within a =
 
 -- ---- the place that an address meets
 
-io_lies : (l : Lengths) (x : Offset) → Below io_size x → Lies (lengths_sum l) (io_target (io_part l) x)
-io_lies l (At i) h = record { end = omega arith; small = omega arith }
-io_lies l Unbacked h = tt
+io_lies : (l : Lengths) (x : Option ℕ) → Below io_size x → Lies (lengths_sum l) (io_target (io_part l) x)
+io_lies l (Some i) h = record { end = omega arith; small = omega arith }
+io_lies l None h = tt
 
 lies_in : (l : Lengths) (a : ℕ) (r : Region) → Lies (lengths_sum l) (target_in l a r)
 lies_in l a Bios = tt

@@ -4,6 +4,7 @@ use Rattle.std.specs.Prelude.{◌≡◌, refl, ◌≢◌, Bool, true, false, ◌
 use Rattle.std.proofs.Math.Path.{sym, ap}
 use Rattle.std.proofs.Common.{ap₂, ◌∙◌, true≢false, arith, mod-eq_of_lt, eqb-true, eq-eqb, ne_eqb}
 use Rattle.std.specs.Prelude.{if◌then◌else◌}
+use Rattle.std.specs.Prelude.{Option, Some}
 use Rattle.model.specs.Base.{further}
 use Rattle.model.specs.Region.{page, decode, region_number, same_region, is_game_pak_rom}
 use Rattle.model.specs.Waitcnt.{rom_waits_of, sram_waits}
@@ -25,8 +26,6 @@ use Rattle.model.specs.declared.Region.TheVariants.{Bios, UnusedLow, Ewram, Iwra
 use Rattle.model.specs.declared.Region.TheVariants.{GamePakRomWs0, GamePakRomWs1, GamePakRomWs2, GamePakSram, UnusedHigh}
 use Rattle.model.specs.declared.RomWindow.{RomWindow}
 use Rattle.model.specs.declared.RomWindow.TheVariants.{Ws0, Ws1, Ws2}
-use Rattle.model.specs.declared.Windowed.{Windowed}
-use Rattle.model.specs.declared.Windowed.TheVariants.{In}
 use Rattle.model.specs.declared.AccessKind.{AccessKind}
 use Rattle.model.specs.declared.AccessKind.TheVariants.{Nonseq, Seq}
 use Rattle.model.specs.declared.AccessSize.{AccessSize}
@@ -242,7 +241,7 @@ plain_cost c m z a e =
     ∙ ap (price (waits_of c)) (plain_beats (sram_waits c.waitcnt) z (first_kind_of (previous c) z a) Nonseq (decode a) e)
 
 -- in a window the beats are those of ROM
-rom_beats_law : (sram : ℕ) (z : AccessSize) (k : AccessKind) (a : ℕ) (win : RomWindow) → window a ≡ In win
+rom_beats_law : (sram : ℕ) (z : AccessSize) (k : AccessKind) (a : ℕ) (win : RomWindow) → window a ≡ Some win
     → data_beats_in sram z k (decode a) ≡ rom_access z k win
 unfolding window decode
 rom_beats_law sram z k a win =
@@ -252,10 +251,10 @@ rom_beats_law sram z k a win =
     λ t₃. choose₂ P (ltb (page a) 0x0E) (λ t e. let s : Ws2 ≡ win = cc in ap (rom_access z k) s)
     λ t₄ e. no cc
   where
-    P : Windowed → Region → Type 0
-    P v r = v ≡ In win → data_beats_in sram z k r ≡ rom_access z k win
+    P : Option RomWindow → Region → Type 0
+    P v r = v ≡ Some win → data_beats_in sram z k r ≡ rom_access z k win
 
-rom_cost : (w : ℕ) (p : Previous) (z : AccessSize) (k : AccessKind) (a : ℕ) (win : RomWindow) → window a ≡ In win
+rom_cost : (w : ℕ) (p : Previous) (z : AccessSize) (k : AccessKind) (a : ℕ) (win : RomWindow) → window a ≡ Some win
     → first_kind_of p z a ≡ k → data_cycles w p z a ≡ price (rom_waits_of w) (rom_access z k win)
 unfolding data_beats
 rom_cost w p z k a win e f =
@@ -264,17 +263,17 @@ rom_cost w p z k a win e f =
 
 -- one that goes on in ROM and begins no block costs S, of a word 2 S, whatever was read or written
 pub continued_cost : (c : Clock) (m : Way) (y : AccessSize) (b : ℕ) (n : Way) (z : AccessSize) (a : ℕ) (win : RomWindow)
-    → Continues y b z a → window a ≡ In win → cost_after c m y b n z a ≡ price (waits_of c) (rom_access z Seq win)
+    → Continues y b z a → window a ≡ Some win → cost_after c m y b n z a ≡ price (waits_of c) (rom_access z Seq win)
 continued_cost c m y b n z a win h e =
     next_cost c m y b n z a ∙ rom_cost c.waitcnt (access_of y b) z Seq a win e (continued_kind y b z a h.rom h)
 
 -- two words in a row within a block of ROM, of which the first is nonsequential, cost N + 3 S
-pub two_words : (c : Clock) (m n : Way) (a d : ℕ) (win : RomWindow) → window a ≡ In win
+pub two_words : (c : Clock) (m n : Way) (a d : ℕ) (win : RomWindow) → window a ≡ Some win
     → aligned Word d ≡ aligned Word a + 4 → d / 0x20000 ≡ a / 0x20000 → first_kind_of (previous c) Word a ≡ Nonseq
     → cost c m Word a + cost_after c m Word a n Word d
     ≡ rom_half_cycles (waits_of c) win Nonseq + 3 * rom_half_cycles (waits_of c) win Seq
 two_words c m n a d win e behind block first =
-    let there : window d ≡ In win = same_window d a (omega arith) ∙ e in
+    let there : window d ≡ Some win = same_window d a (omega arith) ∙ e in
     let rom : InRom a = window_in a win e in
     let rom-too : InRom d = window_in d win there in
     let low : aligned Word a ≡ a / 4 * 4 = aligned_address a (omega arith) Word in

@@ -5,6 +5,7 @@ use Rattle.std.proofs.Math.Path.{ap}
 use Rattle.std.proofs.Common.{ap₂, ◌∙◌, arith, eqb-true, eq-eqb, ne_eqb, le-ltb}
 use Rattle.std.proofs.lemmas.Bool.{not-true}
 use Rattle.std.specs.Prelude.{if◌then◌else◌}
+use Rattle.std.specs.Prelude.{Option, Some, None}
 use Rattle.model.specs.Base.{further, lowered}
 use Rattle.model.specs.Waitcnt.{Waits, written}
 use Rattle.model.specs.Wait.{window, in_window}
@@ -17,8 +18,6 @@ use Rattle.model.proofs.Laws.Previous.{kind_at_nonseq}
 use Rattle.model.specs.declared.PrefetchBuffer.{PrefetchBuffer}
 use Rattle.model.specs.declared.Clock.{Clock}
 use Rattle.model.specs.declared.RomWindow.{RomWindow}
-use Rattle.model.specs.declared.Windowed.{Windowed}
-use Rattle.model.specs.declared.Windowed.TheVariants.{In, Outside}
 use Rattle.model.specs.declared.IsaState.{IsaState}
 use Rattle.model.specs.declared.Version.{Version}
 use Rattle.model.specs.declared.Step.{Step}
@@ -106,14 +105,14 @@ missed_again p a b m =
 -- ---- a restart
 
 -- an address without a window leaves the buffer drained
-pub restart_outside : (t : Waits) (p : PrefetchBuffer) (a : ℕ) → window a ≡ Outside → restart t p a ≡ drained p
+pub restart_outside : (t : Waits) (p : PrefetchBuffer) (a : ℕ) → window a ≡ None → restart t p a ≡ drained p
 unfolding restart
 restart_outside t p a e =
-    ap (λ (v : Windowed). if p.enabled then restart_in t p a v else drained p) e
+    ap (λ (v : Option RomWindow). if p.enabled then restart_in t p a v else drained p) e
     ∙ either (λ (q : PrefetchBuffer). q ≡ drained p) p.enabled refl refl
 
 pub two_nonseq_beats : (t : Waits) (p : PrefetchBuffer) (a : ℕ) (first second : RomWindow)
-    → p.enabled ≡ true → window a ≡ In first → window (further 2 (lowered 2 a)) ≡ In second → TwoNonseqBeats t p a first second
+    → p.enabled ≡ true → window a ≡ Some first → window (further 2 (lowered 2 a)) ≡ Some second → TwoNonseqBeats t p a first second
 unfolding ended start_beat arrived
 two_nonseq_beats t p a first second on e f =
     record {
@@ -122,7 +121,7 @@ two_nonseq_beats t p a first second on e f =
       then_sequential = rw (started, f);
     }
   where
-    started : restart t p a ≡ restart_in t p a (In first)
+    started : restart t p a ≡ restart_in t p a (Some first)
     started = unfold restart in if_true _ _ _ on ∙ ap (restart_in t p a) e
 
 -- ---- idle cycles that change nothing

@@ -7,6 +7,7 @@ use Rattle.std.proofs.lemmas.Bool.{false≢true, not-true}
 use Prim.Native.Nat.{ℕ, zero, suc, ◌+◌, ◌-◌, ◌≤◌}
 use native.Mathlib.Omega.{arith}
 use Rattle.std.proofs.Math.Dec.{ltb}
+use Rattle.std.specs.Prelude.{Option, Some, None}
 use Rattle.model.specs.Base.{further, lowered}
 use Rattle.model.specs.Waitcnt.{Waits, written, prefetch_enable}
 use Rattle.model.specs.Wait.{window, in_window, kind_at, nonseq_if, rom_half_cycles}
@@ -27,9 +28,8 @@ use Rattle.model.proofs.Laws.Bounds.{rom_waits_small}
 use Rattle.model.proofs.Laws.Switch.{ready_switch, ticks_switch, fetched_switch, restart_switch}
 use Rattle.model.proofs.Laws.Switch.{set_enabled_switch, code_fetched_switch}
 use Rattle.model.specs.declared.PrefetchBuffer.{PrefetchBuffer}
+use Rattle.model.specs.declared.RomWindow.{RomWindow}
 use Rattle.model.specs.declared.Clock.{Clock}
-use Rattle.model.specs.declared.Windowed.{Windowed}
-use Rattle.model.specs.declared.Windowed.TheVariants.{In, Outside}
 use Rattle.model.specs.declared.AccessKind.TheVariants.{Nonseq}
 use Rattle.model.specs.declared.IsaState.{IsaState}
 use Rattle.model.specs.declared.IsaState.TheVariants.{Thumb, Arm}
@@ -56,10 +56,10 @@ emptied_sound on =
     }
 
 module _ (t : Waits) (small : SmallWaits t) where
-  restart_in_sound : (p : PrefetchBuffer) (a : ℕ) (v : Windowed) → p.enabled ≡ true → window a ≡ v → Sound (restart_in t p a v)
+  restart_in_sound : (p : PrefetchBuffer) (a : ℕ) (v : Option RomWindow) → p.enabled ≡ true → window a ≡ v → Sound (restart_in t p a v)
   unfolding rom_half_cycles
-  restart_in_sound p a Outside on e = emptied_sound p.enabled
-  restart_in_sound p a (In win) on e =
+  restart_in_sound p a None on e = emptied_sound p.enabled
+  restart_in_sound p a (Some win) on e =
       let k : InRom a = window_in a win e in
       let c : rom_half_cycles t win Nonseq ≤ 9 = small.small win Nonseq in
       record {
@@ -80,10 +80,10 @@ module _ (t : Waits) (small : SmallWaits t) where
   restart_sound p a =
       choose Sound p.enabled (λ on. restart_in_sound p a (window a) on refl) (λ e. emptied_sound p.enabled)
 
-  beat_in_sound : (p : PrefetchBuffer) (v : Windowed) → Sound p → p.enabled ≡ true → p.filling ≡ false → p.count ≤ 7
+  beat_in_sound : (p : PrefetchBuffer) (v : Option RomWindow) → Sound p → p.enabled ≡ true → p.filling ≡ false → p.count ≤ 7
       → window p.next_addr ≡ v → Sound (beat_in t p v)
   unfolding rom_half_cycles
-  beat_in_sound p Outside s on idle room e =
+  beat_in_sound p None s on idle room e =
       record {
         head≤7 = s.head≤7;
         count≤8 = s.count≤8;
@@ -96,7 +96,7 @@ module _ (t : Waits) (small : SmallWaits t) where
         stands = s.stands;
         off = never on;
       }
-  beat_in_sound p (In win) s on idle room e =
+  beat_in_sound p (Some win) s on idle room e =
       record {
         head≤7 = s.head≤7;
         count≤8 = s.count≤8;
@@ -252,9 +252,9 @@ module _ (t : Waits) (small : SmallWaits t) where
       (fetched_sound (fetched p a) (further 2 a) (fetched_sound p a s))
       (restart_sound t small (fetched (fetched p a) (further 2 a)) (further 4 a))
 
-  fetched_in_sound : (p : PrefetchBuffer) (a : ℕ) (isa : IsaState) (v : Windowed) → Sound p → Sound (fetched_in t p a isa v)
-  fetched_in_sound p a isa (In win) s = rom_fetched_sound p a isa s
-  fetched_in_sound p a isa Outside s = s
+  fetched_in_sound : (p : PrefetchBuffer) (a : ℕ) (isa : IsaState) (v : Option RomWindow) → Sound p → Sound (fetched_in t p a isa v)
+  fetched_in_sound p a isa (Some win) s = rom_fetched_sound p a isa s
+  fetched_in_sound p a isa None s = s
 
 pub code_fetched_sound : (c : Clock) (isa : IsaState) (a : ℕ) → SoundClock c → Sound (code_fetched c isa a)
 unfolding code_fetched

@@ -5,6 +5,7 @@ use Rattle.std.proofs.Common.{◌∙◌}
 use Prim.Native.Nat.{ℕ, zero, suc, ◌+◌}
 use Rattle.std.proofs.Math.Dec.{ltb}
 use Rattle.std.specs.Prelude.{if◌then◌else◌}
+use Rattle.std.specs.Prelude.{Option, Some, None}
 use Rattle.model.specs.Base.{further}
 use Rattle.model.specs.Waitcnt.{Waits}
 use Rattle.model.specs.Wait.{window, in_window}
@@ -13,9 +14,8 @@ use Rattle.model.specs.Prefetch.{ended, advance, ready, tick1, ticks, occupied, 
 use Rattle.model.specs.Step.{waits_of, rom_fetched, fetched_in, code_fetched}
 use Rattle.model.proofs.Laws.Choice.{choose, either}
 use Rattle.model.specs.declared.PrefetchBuffer.{PrefetchBuffer}
+use Rattle.model.specs.declared.RomWindow.{RomWindow}
 use Rattle.model.specs.declared.Clock.{Clock}
-use Rattle.model.specs.declared.Windowed.{Windowed}
-use Rattle.model.specs.declared.Windowed.TheVariants.{In, Outside}
 use Rattle.model.specs.declared.IsaState.{IsaState}
 use Rattle.model.specs.declared.IsaState.TheVariants.{Thumb, Arm}
 use Rattle.model.specs.Laws.Switch.{Keeps}
@@ -26,28 +26,28 @@ set_enabled_switch true p = refl
 set_enabled_switch false p = choose (λ (q : PrefetchBuffer). q.enabled ≡ false) p.enabled (λ e. refl) (λ e. e)
 
 module _ (t : Waits) where
-  restart_in_switch : (p : PrefetchBuffer) (a : ℕ) (v : Windowed) → Keeps p (restart_in t p a v)
-  restart_in_switch p a (In win) = refl
-  restart_in_switch p a Outside = refl
+  restart_in_switch : (p : PrefetchBuffer) (a : ℕ) (v : Option RomWindow) → Keeps p (restart_in t p a v)
+  restart_in_switch p a (Some win) = refl
+  restart_in_switch p a None = refl
 
   pub restart_switch : (p : PrefetchBuffer) (a : ℕ) → (restart t p a).enabled ≡ p.enabled
   unfolding restart
   restart_switch p a = either (Keeps p) p.enabled (restart_in_switch p a (window a)) refl
 
   -- a restart drains: what it leaves depends on the switch alone
-  restart_in_anew : (p q : PrefetchBuffer) (a : ℕ) (v : Windowed) → p.enabled ≡ q.enabled
+  restart_in_anew : (p q : PrefetchBuffer) (a : ℕ) (v : Option RomWindow) → p.enabled ≡ q.enabled
       → restart_in t p a v ≡ restart_in t q a v
-  restart_in_anew p q a (In win) e = rw e refl
-  restart_in_anew p q a Outside e = rw e refl
+  restart_in_anew p q a (Some win) e = rw e refl
+  restart_in_anew p q a None e = rw e refl
 
   restart_anew : (p q : PrefetchBuffer) (a : ℕ) → p.enabled ≡ q.enabled → restart t p a ≡ restart t q a
   unfolding restart
   restart_anew p q a e =
       ap₂ (λ (on : Bool) (r : PrefetchBuffer). if on then r else emptied on) e (restart_in_anew p q a (window a) e)
 
-  beat_in_switch : (p : PrefetchBuffer) (v : Windowed) → Keeps p (beat_in t p v)
-  beat_in_switch p (In win) = refl
-  beat_in_switch p Outside = refl
+  beat_in_switch : (p : PrefetchBuffer) (v : Option RomWindow) → Keeps p (beat_in t p v)
+  beat_in_switch p (Some win) = refl
+  beat_in_switch p None = refl
 
   start_beat_switch : (p : PrefetchBuffer) → Keeps p (start_beat t p)
   unfolding start_beat
@@ -93,9 +93,9 @@ rom_fetched_switch t p a Arm =
     twice : Keeps p (fetched (fetched p a) (further 2 a))
     twice = fetched_switch (fetched p a) (further 2 a) ∙ fetched_switch p a
 
-fetched_in_switch : (t : Waits) (p : PrefetchBuffer) (a : ℕ) (isa : IsaState) (v : Windowed) → Keeps p (fetched_in t p a isa v)
-fetched_in_switch t p a isa (In win) = rom_fetched_switch t p a isa
-fetched_in_switch t p a isa Outside = refl
+fetched_in_switch : (t : Waits) (p : PrefetchBuffer) (a : ℕ) (isa : IsaState) (v : Option RomWindow) → Keeps p (fetched_in t p a isa v)
+fetched_in_switch t p a isa (Some win) = rom_fetched_switch t p a isa
+fetched_in_switch t p a isa None = refl
 
 pub code_fetched_switch : (c : Clock) (isa : IsaState) (a : ℕ) → (code_fetched c isa a).enabled ≡ c.prefetch.enabled
 unfolding code_fetched

@@ -2,35 +2,34 @@
 use Rattle.std.specs.Prelude.{◌≡◌, refl, true, false, ℕ, eqb, ltb}
 use Rattle.std.proofs.lemmas.Bool.{false≢true}
 use Rattle.std.proofs.Common.{arith}
+use Rattle.std.specs.Prelude.{Option, Some}
 use Rattle.model.specs.Region.{bios_size, page, decode, is_game_pak_rom}
 use Rattle.model.specs.Wait.{window, is_in, in_window}
 use Rattle.model.proofs.Laws.Choice.{choose, either, tests}
 use Rattle.model.specs.declared.Region.{Region}
 use Rattle.model.specs.declared.RomWindow.{RomWindow}
-use Rattle.model.specs.declared.Windowed.{Windowed}
-use Rattle.model.specs.declared.Windowed.TheVariants.{In}
 use Rattle.model.specs.Laws.Window.{InRom}
 
 pub in_window_true : (a : ℕ) → in_window a ≡ true → InRom a
 unfolding window
 in_window_true a =
-    choose (λ (r : Windowed). is_in r ≡ true → InRom a) (ltb (page a) 0x08) (λ e h. absurd (false≢true h))
-    λ e₁. choose (λ (r : Windowed). is_in r ≡ true → InRom a) (ltb (page a) 0x0A) (λ e h. omega (arith, tests))
-    λ e₂. choose (λ (r : Windowed). is_in r ≡ true → InRom a) (ltb (page a) 0x0C) (λ e h. omega (arith, tests))
-    λ e₃. choose (λ (r : Windowed). is_in r ≡ true → InRom a) (ltb (page a) 0x0E) (λ e h. omega (arith, tests))
+    choose (λ (r : Option RomWindow). is_in r ≡ true → InRom a) (ltb (page a) 0x08) (λ e h. absurd (false≢true h))
+    λ e₁. choose (λ (r : Option RomWindow). is_in r ≡ true → InRom a) (ltb (page a) 0x0A) (λ e h. omega (arith, tests))
+    λ e₂. choose (λ (r : Option RomWindow). is_in r ≡ true → InRom a) (ltb (page a) 0x0C) (λ e h. omega (arith, tests))
+    λ e₃. choose (λ (r : Option RomWindow). is_in r ≡ true → InRom a) (ltb (page a) 0x0E) (λ e h. omega (arith, tests))
     λ e h. absurd (false≢true h)
 
 pub true_in_window : (a : ℕ) → InRom a → in_window a ≡ true
 unfolding window
 true_in_window a k =
-    choose (λ (r : Windowed). is_in r ≡ true) (ltb (page a) 0x08) (λ e. absurd (omega (arith, tests)))
-    λ e₁. choose (λ (r : Windowed). is_in r ≡ true) (ltb (page a) 0x0A) (λ e. refl)
-    λ e₂. choose (λ (r : Windowed). is_in r ≡ true) (ltb (page a) 0x0C) (λ e. refl)
-    λ e₃. choose (λ (r : Windowed). is_in r ≡ true) (ltb (page a) 0x0E) (λ e. refl)
+    choose (λ (r : Option RomWindow). is_in r ≡ true) (ltb (page a) 0x08) (λ e. absurd (omega (arith, tests)))
+    λ e₁. choose (λ (r : Option RomWindow). is_in r ≡ true) (ltb (page a) 0x0A) (λ e. refl)
+    λ e₂. choose (λ (r : Option RomWindow). is_in r ≡ true) (ltb (page a) 0x0C) (λ e. refl)
+    λ e₃. choose (λ (r : Option RomWindow). is_in r ≡ true) (ltb (page a) 0x0E) (λ e. refl)
     λ e. absurd (omega (arith, tests))
 
 -- a window found is one
-pub window_in : (a : ℕ) (win : RomWindow) → window a ≡ In win → InRom a
+pub window_in : (a : ℕ) (win : RomWindow) → window a ≡ Some win → InRom a
 window_in a win e = in_window_true a (rw e)
 
 -- a region found to be ROM is one

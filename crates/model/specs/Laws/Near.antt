@@ -3,9 +3,8 @@
 -- in one memory, though each of its bytes is decoded by itself.
 use Rattle.std.specs.Prelude.{Bool, not, ℕ, ◌+◌, ◌-◌, ◌%◌}
 use Rattle.std.specs.Prelude.{if◌then◌else◌}
+use Rattle.std.specs.Prelude.{Option, Some, None}
 use Rattle.model.specs.Base.{lowered}
-use Rattle.model.specs.declared.Offset.{Offset}
-use Rattle.model.specs.declared.Offset.TheVariants.{At, Unbacked}
 use Rattle.model.specs.declared.Target.{Target}
 use Rattle.model.specs.declared.Target.TheVariants.{Unused, SystemRom, GamePakRom, Plain, Video, Sram}
 
@@ -22,5 +21,5 @@ moved (Video m p i) j = Video m p (around i j)
 moved (Sram p i) j = Sram p (around i j)
 
 -- the place of an address in I/O, by the three tests of `io_offset`
-abbrev pub io_at : Bool → Bool → Bool → ℕ → Offset
-io_at t u w x = if not t then Unbacked else if u then At (x % 0x10000) else if w then At (x - 0x0400_0000) else Unbacked
+abbrev pub io_at : Bool → Bool → Bool → ℕ → Option ℕ
+io_at t u w x = if not t then None else if u then Some (x % 0x10000) else if w then Some (x - 0x0400_0000) else None

@@ -2,6 +2,7 @@
 -- Places and sizes: every place that an address has in a memory lies within its physical size, a memory that it meets lies in
 -- the store, and a store whose lengths fit has at most the bytes of the seven memories.
 use Rattle.std.specs.Prelude.{Bool, ◌&&◌, ℕ, ◌+◌, ◌≤◌, ◌<◌, leb}
+use Rattle.std.specs.Prelude.{Option, Some, None}
 use Rattle.model.specs.Region.{bios_size, ewram_size, iwram_size, io_size}
 use Rattle.model.specs.Region.{palette_size, vram_size, oam_size, rom_size, sram_size}
 use Rattle.model.specs.Mirror.{ewram_offset, iwram_offset, palette_offset, oam_offset, vram_offset}
@@ -10,13 +11,11 @@ use Rattle.model.specs.declared.Lengths.{Lengths}
 use Rattle.model.specs.declared.Part.{Part}
 use Rattle.model.specs.declared.Target.{Target}
 use Rattle.model.specs.declared.Target.TheVariants.{Unused, SystemRom, GamePakRom, Plain, Video, Sram}
-use Rattle.model.specs.declared.Offset.{Offset}
-use Rattle.model.specs.declared.Offset.TheVariants.{At, Unbacked}
 
 -- a place that is backed lies below n
-abbrev pub Below : ℕ → Offset → Type 0
-Below n (At i) = i < n
-Below n Unbacked = Unit {0}
+abbrev pub Below : ℕ → Option ℕ → Type 0
+Below n (Some i) = i < n
+Below n None = Unit {0}
 
 pub record Within (a : ℕ) : Type 0 where
   pub bios : Below bios_size (bios_offset a)
