@@ -6,7 +6,7 @@ ghost use Rattle.model.specs.Base.{encoded, field};
 ghost use Rattle.model.specs.Price.{previously};
 ghost use Rattle.model.specs.BoardBytes as def;
 
-use le::{bit, put_pair, put16, put32, put64, read16, read32, read64};
+use le::{put_pair, put16, put32, put64, read16, read32, read64};
 use model::{BOARD_LENGTH, Board, Clock, Contents, PrefetchBuffer};
 use waits::in_window;
 use waits::waitcnt::WaitCnt;
@@ -182,11 +182,11 @@ fn put_flags(out: &mut [u8], clock: Clock)
     ensures { out.new ≡ encoded (def.flag_fields clock) }
 {
     put16(&mut out[0..2], clock.waitcnt);
-    out[2] = bit(clock.force_next_fetch_n);
+    out[2] = clock.force_next_fetch_n as u8;
     out[3] = (clock.prefetch.head % 256) as u8;
     out[4] = (clock.prefetch.count % 256) as u8;
-    out[5] = bit(clock.prefetch.filling);
-    out[6] = bit(clock.prefetch.first_beat);
+    out[5] = clock.prefetch.filling as u8;
+    out[6] = clock.prefetch.first_beat as u8;
     out[7] = 0;
 }
 
@@ -206,11 +206,9 @@ fn put_halves(out: &mut [u8], halves: [u16; 8])
     requires { length out.old ≡ 16 }
     ensures { out.new ≡ encoded (map (field 2) halves) }
 {
-    let mut i: usize = 0;
-    while i < 8 {
+    for i in 0..8 {
         let at = 2 * i;
         put16(&mut out[at..at + 2], halves[i]);
-        i += 1;
     }
 }
 
