@@ -1,7 +1,7 @@
 // A board as bytes: reading them, writing them, and whether they are sound. From document 01, "Board".
 #![tactic(auto)]
 
-ghost use Rattle.std.specs.Prelude.{◌≡◌, map, ◌≤◌, length};
+ghost use Rattle.std.specs.Prelude.{◌≡◌, map, ◌≤◌, ◌<◌, length};
 ghost use Rattle.model.specs.Base.{encoded, field};
 ghost use Rattle.model.specs.Price.{previously};
 ghost use Rattle.model.specs.BoardBytes as def;
@@ -51,16 +51,7 @@ pub fn load_halves(board: &[u8]) -> [u16; 8]
     requires { length board.now ≡ def.board_length }
     ensures { result ≡ def.halves_from board.now 20 8 }
 {
-    [
-        read16(board, 20),
-        read16(board, 22),
-        read16(board, 24),
-        read16(board, 26),
-        read16(board, 28),
-        read16(board, 30),
-        read16(board, 32),
-        read16(board, 34),
-    ]
+    std::array::from_fn(|i| requires { i < 8 } { read16(board, 20 + 2 * i) })
 }
 
 #[tactic(auto, unfolding(model::specs::BoardBytes::contents_of))]
@@ -230,13 +221,7 @@ fn put_previous(out: &mut [u8], addr: u32, size: u32)
 {
     put32(&mut out[0..4], addr);
     out[4] = (size % 256) as u8;
-    out[5] = 0;
-    out[6] = 0;
-    out[7] = 0;
-    out[8] = 0;
-    out[9] = 0;
-    out[10] = 0;
-    out[11] = 0;
+    out[5..12].fill(0);
 }
 
 // The whole board, written over what stood there.
