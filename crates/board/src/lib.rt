@@ -1,7 +1,7 @@
 // A board as bytes: reading them, writing them, and whether they are sound. From document 01, "Board".
 #![tactic(auto)]
 
-ghost use Rattle.std.specs.Prelude.{◌≡◌, map, ◌≤◌, ◌<◌, length};
+ghost use Rattle.std.specs.Prelude.{◌≡◌, map, ◌≤◌, length};
 ghost use Rattle.model.specs.Base.{encoded, field};
 ghost use Rattle.model.specs.Price.{previously};
 ghost use Rattle.model.specs.BoardBytes as def;
@@ -51,7 +51,7 @@ pub fn load_halves(board: &[u8]) -> [u16; 8]
     requires { length board.now ≡ def.board_length }
     ensures { result ≡ def.halves_from board.now 20 8 }
 {
-    std::array::from_fn(|i| requires { i < 8 } { read16(board, 20 + 2 * i) })
+    std::array::from_fn(|i| read16(board, 20 + 2 * i))
 }
 
 #[tactic(auto, unfolding(model::specs::BoardBytes::contents_of))]
