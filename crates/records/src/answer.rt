@@ -2,7 +2,7 @@
 ghost use Rattle.std.specs.Prelude.{◌≡◌, length};
 ghost use Rattle.model.specs.BoardBytes as def;
 
-use le::{bit, put_pair};
+use le::put_pair;
 use model::Answer;
 
 pub fn put_answer(out: &mut [u8], x: Answer)
@@ -12,6 +12,6 @@ pub fn put_answer(out: &mut [u8], x: Answer)
     put_pair(&mut out[0..8], x.value, x.cycles);
     out[8] = x.hits;
     out[9] = x.count;
-    out[10] = bit(x.force);
+    out[10] = x.force as u8;
     out[11] = 0;
 }
