@@ -233,14 +233,10 @@ fn put(out: &mut [u8], beats: Beats)
     requires { length out.old ≡ def.grounds_length }
     ensures { out.new ≡ trails.beats_of beats }
 {
-    le::put_pair(
-        &mut out[0..8],
-        beats.first as u32 + 256 * beats.second as u32,
-        0,
-    );
-    le::put_pair(&mut out[8..16], 0, 0);
-    le::put_pair(&mut out[16..24], 0, 0);
-    le::put_pair(&mut out[24..32], 0, 0);
+    let mut bytes = [0u8; GROUNDS_LENGTH];
+    bytes[0] = beats.first;
+    bytes[1] = beats.second;
+    out.copy_from_slice(&bytes);
 }
 
 // Tells the grounds of a block's words (W-207), in order, into bytes that are 0, and where an access goes on behind the last. A
@@ -254,15 +250,13 @@ fn put_block(out: &mut [u8], next: u64, addr: u32, words: u32) -> u64
     let mut place: usize = 0;
     let mut from = next;
     let mut at = addr;
-    let mut left = words;
-    while left > 0 {
+    for _ in 0..words {
         let beats = data_beats(from, 4, at);
         out[place] = beats.first;
         out[place + 1] = beats.second;
         place += beat_count(beats);
         from = data_next(4, at);
         at = std::num::wrapping_add_u32(at, 4);
-        left -= 1;
     }
     from
 }
@@ -332,8 +326,7 @@ pub fn put_grounds(sheet: &[u8], n: usize, clock: Clock, answers: &[u8], grounds
 {
     let version = rules_of(sheet);
     let mut trail = begun(clock);
-    let mut k: usize = 0;
-    while k < n {
+    for k in 0..n {
         let before = before_step(clock, answers, k);
         let at = GROUNDS_LENGTH * k;
         let behind = tell(
@@ -344,6 +337,5 @@ pub fn put_grounds(sheet: &[u8], n: usize, clock: Clock, answers: &[u8], grounds
             answers[ANSWER_LENGTH * k + 8],
         );
         trail = behind;
-        k += 1;
     }
 }
