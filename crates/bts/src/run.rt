@@ -55,8 +55,7 @@ pub fn run_core(
     let mut current = clock;
     let mut held = contents;
     let mut total: u64 = 0;
-    let mut k: usize = 0;
-    while k < n {
+    for k in 0..n {
         let step = step_of(record_at(sheet, version, k));
         let taken = take_step(
             current, held, waits, halves, step, store, bios, rom, lengths,
@@ -71,12 +70,11 @@ pub fn run_core(
         let left = taken.contents;
         held = left;
         total += answer.cycles as u64;
-        k += 1;
     }
     Done {
         clock: current,
         contents: held,
-        steps: k,
+        steps: n,
         total,
     }
 }
