@@ -34,27 +34,36 @@ pub fn word_at(s: &[u8], at: usize) -> u32
     half_at(s, at) as u32 + 0x1_0000 * half_at(s, at + 2) as u32
 }
 
-// ---- read where the bytes stand
+// ---- read where the bytes stand. The compiler makes one load of the bytes; by a chunk of the slice it would test its length anew
 
 pub fn read16(s: &[u8], at: usize) -> u16
     requires { at + 2 ≤ length s.now }
     ensures { result ≡ def.number 2 s.now at }
 {
-    u16::from_le_bytes(*s[at..].first_chunk().unwrap())
+    u16::from_le_bytes([s[at], s[at + 1]])
 }
 
 pub fn read32(s: &[u8], at: usize) -> u32
     requires { at + 4 ≤ length s.now }
     ensures { result ≡ def.number 4 s.now at }
 {
-    u32::from_le_bytes(*s[at..].first_chunk().unwrap())
+    u32::from_le_bytes([s[at], s[at + 1], s[at + 2], s[at + 3]])
 }
 
 pub fn read64(s: &[u8], at: usize) -> u64
     requires { at + 8 ≤ length s.now }
     ensures { result ≡ def.number 8 s.now at }
 {
-    u64::from_le_bytes(*s[at..].first_chunk().unwrap())
+    u64::from_le_bytes([
+        s[at],
+        s[at + 1],
+        s[at + 2],
+        s[at + 3],
+        s[at + 4],
+        s[at + 5],
+        s[at + 6],
+        s[at + 7],
+    ])
 }
 
 // ---- a byte of a number
