@@ -6,7 +6,7 @@ ghost use Rattle.model.specs.Base.{encoded, field};
 ghost use Rattle.model.specs.Price.{previously};
 ghost use Rattle.model.specs.BoardBytes as def;
 
-use le::{put_pair, put16, put32, put64, read16, read32, read64};
+use le::{put16, put32, put64, read16, read32, read64};
 use model::{BOARD_LENGTH, Board, Clock, Contents, PrefetchBuffer};
 use waits::in_window;
 use waits::waitcnt::WaitCnt;
@@ -188,7 +188,8 @@ fn put_clock(out: &mut [u8], clock: Clock)
 {
     let p = clock.prefetch;
     put_flags(&mut out[0..8], clock);
-    put_pair(&mut out[8..16], p.wait_left, p.next_addr);
+    put32(&mut out[8..12], p.wait_left);
+    put32(&mut out[12..16], p.next_addr);
     put32(&mut out[16..20], p.head_addr);
 }
 
@@ -208,7 +209,8 @@ fn put_contents(out: &mut [u8], contents: Contents)
     requires { length out.old ≡ 32 }
     ensures { out.new ≡ encoded (def.contents_fields contents) }
 {
-    put_pair(&mut out[0..8], contents.cpu_pc, contents.last_bios_opcode);
+    put32(&mut out[0..4], contents.cpu_pc);
+    put32(&mut out[4..8], contents.last_bios_opcode);
     put64(&mut out[8..16], contents.vram_write_count);
     put64(&mut out[16..24], contents.oam_write_count);
     put64(&mut out[24..32], contents.palette_write_count);

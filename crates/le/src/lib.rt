@@ -92,15 +92,6 @@ pub fn put32(out: &mut [u8], v: u32)
     out.copy_from_slice(&v.to_le_bytes());
 }
 
-// Two words, one behind the other.
-pub fn put_pair(out: &mut [u8], first: u32, second: u32)
-    requires { length out.old ≡ 8 }
-    ensures { out.new ≡ def.bytes 4 first ++ def.bytes 4 second }
-{
-    put32(&mut out[0..4], first);
-    put32(&mut out[4..8], second);
-}
-
 pub fn put64(out: &mut [u8], v: u64)
     requires { length out.old ≡ 8 }
     ensures { out.new ≡ def.bytes 8 v }
