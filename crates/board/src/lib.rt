@@ -5,7 +5,7 @@ ghost use Rattle.std.specs.Prelude.{◌≡◌, map, ◌≤◌, length};
 ghost use Rattle.model.specs.Base.{encoded, field};
 ghost use Rattle.model.specs.BoardBytes as def;
 
-use le::{bit, put_pair, put16, put32, put64, read16, read32, read64};
+use le::{put16, put32, put64, read16, read32, read64};
 use model::{BOARD_LENGTH, Board, Clock, Contents, PrefetchBuffer, Previous};
 use waits::in_window;
 use waits::waitcnt::WaitCnt;
@@ -52,16 +52,7 @@ pub fn load_halves(board: &[u8]) -> [u16; 8]
     requires { length board.now ≡ def.board_length }
     ensures { result ≡ def.halves_from board.now 20 8 }
 {
-    [
-        read16(board, 20),
-        read16(board, 22),
-        read16(board, 24),
-        read16(board, 26),
-        read16(board, 28),
-        read16(board, 30),
-        read16(board, 32),
-        read16(board, 34),
-    ]
+    std::array::from_fn(|i| read16(board, 20 + 2 * i))
 }
 
 #[tactic(auto, unfolding(model::specs::BoardBytes::contents_of))]
@@ -183,11 +174,11 @@ fn put_flags(out: &mut [u8], clock: Clock)
     ensures { out.new ≡ encoded (def.flag_fields clock) }
 {
     put16(&mut out[0..2], clock.waitcnt);
-    out[2] = bit(clock.force_next_fetch_n);
+    out[2] = clock.force_next_fetch_n as u8;
     out[3] = (clock.prefetch.head % 256) as u8;
     out[4] = (clock.prefetch.count % 256) as u8;
-    out[5] = bit(clock.prefetch.filling);
-    out[6] = bit(clock.prefetch.first_beat);
+    out[5] = clock.prefetch.filling as u8;
+    out[6] = clock.prefetch.first_beat as u8;
     out[7] = 0;
 }
 
@@ -198,7 +189,8 @@ fn put_clock(out: &mut [u8], clock: Clock)
 {
     let p = clock.prefetch;
     put_flags(&mut out[0..8], clock);
-    put_pair(&mut out[8..16], p.wait_left, p.next_addr);
+    put32(&mut out[8..12], p.wait_left);
+    put32(&mut out[12..16], p.next_addr);
     put32(&mut out[16..20], p.head_addr);
 }
 
@@ -207,11 +199,9 @@ fn put_halves(out: &mut [u8], halves: [u16; 8])
     requires { length out.old ≡ 16 }
     ensures { out.new ≡ encoded (map (field 2) halves) }
 {
-    let mut i: usize = 0;
-    while i < 8 {
+    for i in 0..8 {
         let at = 2 * i;
         put16(&mut out[at..at + 2], halves[i]);
-        i += 1;
     }
 }
 
@@ -220,7 +210,8 @@ fn put_contents(out: &mut [u8], contents: Contents)
     requires { length out.old ≡ 32 }
     ensures { out.new ≡ encoded (def.contents_fields contents) }
 {
-    put_pair(&mut out[0..8], contents.cpu_pc, contents.last_bios_opcode);
+    put32(&mut out[0..4], contents.cpu_pc);
+    put32(&mut out[4..8], contents.last_bios_opcode);
     put64(&mut out[8..16], contents.vram_write_count);
     put64(&mut out[16..24], contents.oam_write_count);
     put64(&mut out[24..32], contents.palette_write_count);
@@ -233,13 +224,7 @@ fn put_previous(out: &mut [u8], p: Previous)
 {
     put32(&mut out[0..4], p.addr);
     out[4] = (p.size % 256) as u8;
-    out[5] = 0;
-    out[6] = 0;
-    out[7] = 0;
-    out[8] = 0;
-    out[9] = 0;
-    out[10] = 0;
-    out[11] = 0;
+    out[5..12].fill(0);
 }
 
 // The whole board, written over what stood there.

@@ -54,8 +54,7 @@ pub fn run_core(
     });
     let mut current = machine;
     let mut total: u64 = 0;
-    let mut k: usize = 0;
-    while k < n {
+    for k in 0..n {
         let step = step_of(record_at(sheet, version, k));
         let taken = take_step(current, waits, halves, step, store, media);
         let answer = taken.answer;
@@ -66,11 +65,10 @@ pub fn run_core(
         waits = fresh;
         current = after;
         total += answer.cycles as u64;
-        k += 1;
     }
     Done {
         machine: current,
-        steps: k,
+        steps: n,
         total,
     }
 }

@@ -11,14 +11,7 @@ ghost use Rattle.model.specs.Base as def;
 pub fn byte_at(s: &[u8], at: usize) -> u8
     ensures { result ≡ def.byte_at s.now at }
 {
-    if at < s.len() { s[at] } else { 0 }
-}
-
-// The halfword of two bytes.
-pub fn half(a: u8, b: u8) -> u16
-    ensures { result ≡ a + 256 * b }
-{
-    a as u16 + 256 * b as u16
+    s.get(at).copied().unwrap_or(0)
 }
 
 // A halfword; its bytes past the end are 0.
@@ -28,7 +21,7 @@ pub fn half_at(s: &[u8], at: usize) -> u16
     if s.len() <= at {
         return 0;
     }
-    half(byte_at(s, at), byte_at(s, at + 1))
+    u16::from_le_bytes([byte_at(s, at), byte_at(s, at + 1)])
 }
 
 // A word; its bytes past the end are 0.
@@ -41,27 +34,36 @@ pub fn word_at(s: &[u8], at: usize) -> u32
     half_at(s, at) as u32 + 0x1_0000 * half_at(s, at + 2) as u32
 }
 
-// ---- read where the bytes stand
+// ---- read where the bytes stand. The compiler makes one load of the bytes; by a chunk of the slice it would test its length anew
 
 pub fn read16(s: &[u8], at: usize) -> u16
     requires { at + 2 ≤ length s.now }
     ensures { result ≡ def.number 2 s.now at }
 {
-    half(s[at], s[at + 1])
+    u16::from_le_bytes([s[at], s[at + 1]])
 }
 
 pub fn read32(s: &[u8], at: usize) -> u32
     requires { at + 4 ≤ length s.now }
     ensures { result ≡ def.number 4 s.now at }
 {
-    read16(s, at) as u32 + 0x1_0000 * read16(s, at + 2) as u32
+    u32::from_le_bytes([s[at], s[at + 1], s[at + 2], s[at + 3]])
 }
 
 pub fn read64(s: &[u8], at: usize) -> u64
     requires { at + 8 ≤ length s.now }
     ensures { result ≡ def.number 8 s.now at }
 {
-    read32(s, at) as u64 + 0x1_0000_0000 * read32(s, at + 4) as u64
+    u64::from_le_bytes([
+        s[at],
+        s[at + 1],
+        s[at + 2],
+        s[at + 3],
+        s[at + 4],
+        s[at + 5],
+        s[at + 6],
+        s[at + 7],
+    ])
 }
 
 // ---- a byte of a number
@@ -71,53 +73,28 @@ pub fn lane(value: u32, k: u32) -> u8
     requires { k < 4 }
     ensures { result ≡ def.byte_of k value }
 {
-    match k {
-        0 => (value % 256) as u8,
-        1 => (value / 0x100 % 256) as u8,
-        2 => (value / 0x1_0000 % 256) as u8,
-        _ => (value / 0x100_0000 % 256) as u8,
-    }
+    value.to_le_bytes()[k as usize]
 }
 
 // ---- written
-
-// A flag's byte.
-pub fn bit(b: bool) -> u8
-    ensures { result ≡ def.bit b }
-{
-    if b { 1 } else { 0 }
-}
 
 pub fn put16(out: &mut [u8], v: u16)
     requires { length out.old ≡ 2 }
     ensures { out.new ≡ def.bytes 2 v }
 {
-    out[0] = (v % 256) as u8;
-    out[1] = (v / 256 % 256) as u8;
+    out.copy_from_slice(&v.to_le_bytes());
 }
 
 pub fn put32(out: &mut [u8], v: u32)
     requires { length out.old ≡ 4 }
     ensures { out.new ≡ def.bytes 4 v }
 {
-    out[0] = (v % 256) as u8;
-    out[1] = (v / 256 % 256) as u8;
-    out[2] = (v / 256 / 256 % 256) as u8;
-    out[3] = (v / 256 / 256 / 256 % 256) as u8;
-}
-
-// Two words, one behind the other.
-pub fn put_pair(out: &mut [u8], first: u32, second: u32)
-    requires { length out.old ≡ 8 }
-    ensures { out.new ≡ def.bytes 4 first ++ def.bytes 4 second }
-{
-    put32(&mut out[0..4], first);
-    put32(&mut out[4..8], second);
+    out.copy_from_slice(&v.to_le_bytes());
 }
 
 pub fn put64(out: &mut [u8], v: u64)
     requires { length out.old ≡ 8 }
     ensures { out.new ≡ def.bytes 8 v }
 {
-    put_pair(out, (v % 0x1_0000_0000) as u32, (v / 0x1_0000_0000) as u32);
+    out.copy_from_slice(&v.to_le_bytes());
 }

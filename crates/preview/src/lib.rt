@@ -35,9 +35,7 @@ pub fn put_values(sheet: &[u8], n: usize, answers: &mut [u8])
     ensures { answers.new
         ≡ each_answer clock_valued (records_from sheet.now 0 n) answers.old }
 {
-    let mut k = n;
-    while k > 0 {
-        k -= 1;
+    for k in (0..n).rev() {
         let kind = sheet[HEADER_LENGTH + RECORD_LENGTH * k];
         let at = ANSWER_LENGTH * k;
         put_told(&mut answers[at..at + ANSWER_LENGTH], kind);

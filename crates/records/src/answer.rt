@@ -2,16 +2,17 @@
 ghost use Rattle.std.specs.Prelude.{◌≡◌, length};
 ghost use Rattle.model.specs.BoardBytes as def;
 
-use le::{bit, put_pair};
+use le::put32;
 use model::Answer;
 
 pub fn put_answer(out: &mut [u8], x: Answer)
     requires { length out.old ≡ def.answer_length }
     ensures { out.new ≡ def.answer_bytes x }
 {
-    put_pair(&mut out[0..8], x.value, x.cycles);
+    put32(&mut out[0..4], x.value);
+    put32(&mut out[4..8], x.cycles);
     out[8] = x.hits;
     out[9] = x.count;
-    out[10] = bit(x.force);
+    out[10] = x.force as u8;
     out[11] = 0;
 }

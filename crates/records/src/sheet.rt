@@ -3,7 +3,7 @@
 ghost use Rattle.std.specs.Prelude.{◌≡◌, ◌+◌, ◌*◌, ◌≤◌, length};
 ghost use Rattle.model.specs.Sheet as def;
 
-use le::{byte_at, half, half_at, read32};
+use le::{byte_at, half_at, read32};
 use model::{
     AccessSize, HEADER_LENGTH, IsaState, MAX_RECORDS, MAX_WORDS, RECORD_LENGTH, SheetRecord, Step,
     Version,
@@ -175,8 +175,7 @@ fn last_kind(version: Version) -> u8
     }
 }
 
-// The least faulty of n records, in one pass: `left` of them are still to be looked at, and k is the first of these. n where
-// there is none. A record is held against the row of its kind; the flag and the zero byte behind it are one number. The kind is
+// The least faulty of n records, in one pass; n where there is none. A record is held against the row of its kind; the flag and the zero byte behind it are one number. The kind is
 // not branched on: kinds follow each other in no order, so that a branch would often be guessed wrong. The table is put in place
 // once, not for each record.
 #[tactic(auto, unfolding(model::specs::Sheet::records_from, model::specs::Sheet::first_of))]
@@ -187,9 +186,7 @@ pub fn least_faulty(sheet: &[u8], n: usize) -> usize
     let kinds = KINDS;
     let version = rules_of(sheet);
     let last = last_kind(version);
-    let mut left = n;
-    while left > 0 {
-        let k = n - left;
+    for k in 0..n {
         let r = record_at(sheet, version, k);
         // no row for the kind, or no bit for the size
         if (r.kind > last) | (r.size > 4) {
@@ -197,14 +194,13 @@ pub fn least_faulty(sheet: &[u8], n: usize) -> usize
         }
         let row = kinds[r.kind as usize];
         let fits = ((row[0] >> r.size as u32) % 2 == 1)
-            & (half(r.flag, r.zero_byte) as u32 <= row[1])
+            & (u16::from_le_bytes([r.flag, r.zero_byte]) as u32 <= row[1])
             & (r.address <= row[2])
             & (r.value <= row[3])
             & (row[4] <= r.value);
         if !fits {
             return k;
         }
-        left -= 1;
     }
     n
 }

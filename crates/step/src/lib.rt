@@ -222,8 +222,7 @@ fn block_cycles(waitcnt: u16, previous: Previous, addr: u32, words: u32) -> u32
     let mut from = previous;
     let mut cycles: u32 = 0;
     let mut at = addr;
-    let mut left = words;
-    while left > 0 {
+    for _ in 0..words {
         let low = waits::aligned(AccessSize::Word, at);
         let price = data_price(
             waitcnt,
@@ -236,7 +235,6 @@ fn block_cycles(waitcnt: u16, previous: Previous, addr: u32, words: u32) -> u32
         from = Previous { addr: low, size: 4 };
         cycles += price;
         at = std::num::wrapping_add_u32(at, 4);
-        left -= 1;
     }
     cycles
 }
@@ -323,15 +321,13 @@ fn clear_words(
     let mut held = contents;
     let mut landed: u64 = 0;
     let mut at = addr;
-    let mut left = words;
-    while left > 0 {
+    for _ in 0..words {
         let target = parts::target_of(at, lengths);
         let stored = stores::write_word(target, at, 0, store);
         let counted = count_store(held, target, stored.halfwords);
         held = counted;
         landed += stored.landed;
         at = std::num::wrapping_add_u32(at, 4);
-        left -= 1;
     }
     Zeroed {
         contents: held,

@@ -35,9 +35,7 @@ pub fn put_shares(answers: &[u8], n: usize, total: u64, rate: u32, shares: &mut 
 {
     let mut cost = cost_of(total, rate);
     let mut due = cost / RATE_CYCLES;
-    let mut k = n;
-    while k > 0 {
-        k -= 1;
+    for k in (0..n).rev() {
         let cycles = le::read32(answers, ANSWER_LENGTH * k + 4);
         cost -= cycles as u64 * rate as u64;
         let before = cost / RATE_CYCLES;

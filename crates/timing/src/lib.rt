@@ -135,7 +135,7 @@ pub fn price_insn(input: TimingInput, waits: [[u8; 2]; 3], prefetch: PrefetchBuf
         had_internal_cycles: had_i,
         pc_changed: input.pc_changed,
     });
-    let internal = le::bit(had_i) as u32;
+    let internal = had_i as u32;
     InsnCycles {
         total: fetch.cycles + internal,
         internal,
