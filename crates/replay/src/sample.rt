@@ -1,9 +1,14 @@
 // The sample as it is read: so many bytes at a time, or none if it ends before that.
+ghost use Rattle.std.specs.Prelude.{◌≡◌, List, ℕ, length, IfOk};
+ghost use Rattle.std.specs.Int.{w32, w64, from_le_bytes};
+ghost use Rattle.std.specs.Io.KnownBytes.{Consumes};
+
 use std::alloc::{AllocError, Global};
+use std::error::Error;
 use std::io::Read;
 use std::{fmt, io};
 
-// The sample is cut off, or a case of it asks for more than there is.
+// The sample is cut off, a case of it asks for more than there is, or memory has run out.
 #[derive(Clone, Copy, Debug)]
 pub struct BadSample;
 
@@ -12,6 +17,8 @@ impl fmt::Display for BadSample {
         write!(f, "bad sample")
     }
 }
+
+impl Error for BadSample {}
 
 impl From<io::Error> for BadSample {
     fn from(_e: io::Error) -> BadSample {
@@ -25,21 +32,32 @@ impl From<AllocError> for BadSample {
     }
 }
 
-pub fn read_array<const N: usize, R: Read>(input: &mut R) -> Result<[u8; N], BadSample> {
+pub fn read_array<const N: usize, R: Read>(input: &mut R) -> Result<[u8; N], BadSample>
+    ensures { IfOk result (λ bytes. Consumes (R.remaining input.old) (R.remaining input.new) bytes) }
+{
     let mut bytes = [0u8; N];
     input.read_exact(&mut bytes)?;
     Ok(bytes)
 }
 
-pub fn read_u32<R: Read>(input: &mut R) -> Result<u32, BadSample> {
+pub fn read_u32<R: Read>(input: &mut R) -> Result<u32, BadSample>
+    ensures { IfOk result (λ n. (bytes : List ℕ) × (n ≡ from_le_bytes w32 bytes)
+        × Consumes (R.remaining input.old) (R.remaining input.new) bytes) }
+{
     Ok(u32::from_le_bytes(read_array(input)?))
 }
 
-pub fn read_u64<R: Read>(input: &mut R) -> Result<u64, BadSample> {
+pub fn read_u64<R: Read>(input: &mut R) -> Result<u64, BadSample>
+    ensures { IfOk result (λ n. (bytes : List ℕ) × (n ≡ from_le_bytes w64 bytes)
+        × Consumes (R.remaining input.old) (R.remaining input.new) bytes) }
+{
     Ok(u64::from_le_bytes(read_array(input)?))
 }
 
-pub fn read_bytes<R: Read>(alloc: Global, input: &mut R, n: usize) -> Result<Vec<u8>, BadSample> {
+pub fn read_bytes<R: Read>(alloc: Global, input: &mut R, n: usize) -> Result<Vec<u8>, BadSample>
+    ensures len { IfOk result (λ bytes. length bytes.items ≡ n) }
+    ensures bytes { IfOk result (λ bytes. Consumes (R.remaining input.old) (R.remaining input.new) bytes.items) }
+{
     let mut bytes = vec![in alloc; 0; n]?;
     input.read_exact(&mut bytes)?;
     Ok(bytes)
