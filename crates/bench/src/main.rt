@@ -5,17 +5,14 @@
 #![tactic(auto)]
 
 ghost use Rattle.std.specs.Prelude.{◌≤◌, length, IfOk};
-ghost use Rattle.model.specs.Sheet.{max_records};
 
 use grounds::names::{beat_ground, ground_name};
-use model::{ANSWER_LENGTH, GROUNDS_LENGTH, Ground, HEADER_LENGTH, MAX_RECORDS, RECORD_LENGTH};
+use model::{
+    ANSWER_LENGTH, GROUNDS_LENGTH, Ground, HEADER_LENGTH, Lengths, MAX_RECORDS,
+    RECORD_LENGTH,
+};
 use std::io;
 use std::io::Read;
-
-// A number behind a space.
-fn column<P: Print>(rt: &P, n: u64) -> io::Result<()> {
-    print!(rt; " {n}")
-}
 
 // A word for the person at the terminal; standard output has nothing but figures. Where nobody can be told, there is nobody to
 // tell of that either.
@@ -39,41 +36,32 @@ fn print_ground<P: Print>(rt: &P, beat: Option<Ground>) -> io::Result<()> {
     }
 }
 
-// The grounds of record k.
-fn print_grounds<P: Print>(rt: &P, grounds: &[u8], k: usize) -> io::Result<()>
-    requires { k ≤ max_records }
-{
-    let mut beat: usize = 0;
-    while beat < GROUNDS_LENGTH {
-        let byte = le::byte_at(grounds, GROUNDS_LENGTH * k + beat);
-        print_ground(rt, beat_ground(byte))?;
-        beat += 1;
+// The grounds of a record, a word a beat.
+fn print_grounds<P: Print>(rt: &P, grounds: &[u8]) -> io::Result<()> {
+    for byte in grounds {
+        print_ground(rt, beat_ground(*byte))?;
     }
     Ok(())
 }
 
 // The line of record k.
-fn print_answer<P: Print>(rt: &P, answers: &[u8], grounds: &[u8], k: usize) -> io::Result<()>
-    requires { k ≤ max_records }
-{
-    let at = ANSWER_LENGTH * k;
-    print!(rt; "{k}")?;
-    column(rt, le::word_at(answers, at + 4) as u64)?;
-    column(rt, le::word_at(answers, at) as u64)?;
-    column(rt, le::byte_at(answers, at + 8) as u64)?;
-    column(rt, le::byte_at(answers, at + 9) as u64)?;
-    column(rt, le::byte_at(answers, at + 10) as u64)?;
-    print_grounds(rt, grounds, k)?;
+fn print_answer<P: Print>(rt: &P, k: usize, answer: &[u8], grounds: &[u8]) -> io::Result<()> {
+    let value = le::word_at(answer, 0);
+    let cycles = le::word_at(answer, 4);
+    let hits = le::byte_at(answer, 8);
+    let count = le::byte_at(answer, 9);
+    let force = le::byte_at(answer, 10);
+    print!(rt; "{k} {cycles} {value} {hits} {count} {force}")?;
+    print_grounds(rt, grounds)?;
     println!(rt)
 }
 
-fn print_answers<P: Print>(rt: &P, answers: &[u8], grounds: &[u8], n: usize) -> io::Result<()>
-    requires { n ≤ max_records }
-{
-    let mut k: usize = 0;
-    while k < n {
-        print_answer(rt, answers, grounds, k)?;
-        k += 1;
+// The lines of the first n records.
+fn print_answers<P: Print>(rt: &P, answers: &[u8], grounds: &[u8], n: usize) -> io::Result<()> {
+    let answers = answers.chunks_exact(ANSWER_LENGTH);
+    let grounds = grounds.chunks_exact(GROUNDS_LENGTH);
+    for (k, (answer, grounds)) in answers.zip(grounds).take(n).enumerate() {
+        print_answer(rt, k, answer, grounds)?;
     }
     Ok(())
 }
@@ -86,13 +74,24 @@ fn print_refusal<P: Print>(rt: &P, refusal: u32, index: u32) -> io::Result<()> {
     println!(rt; "refused {refusal} at {index}")
 }
 
+// The lengths of document 01's program, 61,444 bytes together.
+const MEMORIES: Lengths = Lengths {
+    ewram: 16384,
+    iwram: 16384,
+    io: 2052,
+    palette: 1024,
+    vram: 16384,
+    oam: 1024,
+    sram: 8192,
+};
+
 // Writes the figures, or the refusal.
 fn run_sheet<R: Print + Eprint>(rt: &R, sheet: &[u8]) -> io::Result<()> {
     let mut board = board::fresh();
     let mut store = [0u8; 61444];
     let mut answers = [0u8; ANSWER_LENGTH * MAX_RECORDS];
     let mut grounds = [0u8; GROUNDS_LENGTH * MAX_RECORDS];
-    let r = bts::bts_run_grounds(
+    let report = bts::bts_run_grounds(
         sheet,
         &mut board,
         &mut store,
@@ -100,20 +99,20 @@ fn run_sheet<R: Print + Eprint>(rt: &R, sheet: &[u8]) -> io::Result<()> {
         b"",
         &mut answers,
         &mut grounds,
-        16384,
-        16384,
-        2052,
-        1024,
-        16384,
-        1024,
-        8192,
+        MEMORIES.ewram,
+        MEMORIES.iwram,
+        MEMORIES.io,
+        MEMORIES.palette,
+        MEMORIES.vram,
+        MEMORIES.oam,
+        MEMORIES.sram,
     );
-    if r.number != 0 {
+    if report.number != 0 {
         say(rt, "the sheet is refused");
-        return print_refusal(rt, r.number, r.index);
+        return print_refusal(rt, report.number, report.index);
     }
-    print_answers(rt, &answers, &grounds, r.index as usize)?;
-    print_total(rt, r.total)
+    print_answers(rt, &answers, &grounds, report.index as usize)?;
+    print_total(rt, report.total)
 }
 
 // Reads until the buffer is full or the input has ended, and answers how many bytes it put there.
@@ -122,11 +121,10 @@ fn read_full<R: Read>(input: &mut R, buffer: &mut [u8]) -> io::Result<usize>
 {
     let mut done: usize = 0;
     while done < buffer.len() {
-        let n = input.read(&mut buffer[done..])?;
-        if n == 0 {
-            break;
+        match input.read(&mut buffer[done..])? {
+            0 => break,
+            n => done += n,
         }
-        done += n;
     }
     Ok(done)
 }

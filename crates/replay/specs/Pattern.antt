@@ -1,6 +1,16 @@
 -- What a buffer of a recorded case holds before the run. From tests/against-rust/README.md, "The sample". Assumes nothing.
 use Rattle.std.specs.Prelude.{ℕ, ◌+◌, ◌*◌, ◌/◌, ◌%◌}
+use Rattle.replay.specs.declared.pattern.Buffer.{Buffer}
+use Rattle.replay.specs.declared.pattern.Buffer.TheVariants.{Store, Bios, Rom, Answers, Second}
 
 -- byte i of the buffer with this tag, in a case with this seed
 abbrev pub pattern_byte : ℕ → ℕ → ℕ → ℕ
 pattern_byte seed tag i = (i * 31 + i / 256 * 17 + seed * 13 + tag * 101) % 251
+
+-- the tags
+abbrev pub tag_of : Buffer → ℕ
+tag_of Store = 1
+tag_of Bios = 2
+tag_of Rom = 3
+tag_of Answers = 4
+tag_of Second = 5

@@ -1,46 +1,53 @@
 // What the store, the BIOS, the ROM, the answers and the second buffer, that of the shares or of the grounds, hold before a run.
 // It follows from the case's seed, so the sample need not have these bytes.
-ghost use Rattle.std.specs.Prelude.{◌≡◌, true, ℕ, ◌<◌, length, get_or};
-ghost use Rattle.replay.specs.Pattern.{pattern_byte};
+ghost use Rattle.std.specs.Prelude.{◌≡◌, ◌↔◌, ℕ, ◌<◌, length, get_or, IsTrue, IfOk};
+ghost use Rattle.replay.specs.Pattern.{pattern_byte, tag_of};
 
-pub const STORE: u32 = 1;
+use std::alloc::{AllocError, Global};
 
-pub const BIOS: u32 = 2;
-
-pub const ROM: u32 = 3;
-
-pub const ANSWERS: u32 = 4;
-
-pub const SECOND: u32 = 5;
+// A buffer that the sample does not have, by its tag in the formula.
+#[derive(Clone, Copy)]
+pub enum Buffer {
+    Store = 1,
+    Bios = 2,
+    Rom = 3,
+    Answers = 4,
+    Second = 5,
+}
 
 // Each number is reduced first: it gives the same, and no product wraps.
-pub fn byte_at(i: usize, seed: u32, tag: u32) -> u8
-    ensures { result ≡ pattern_byte seed tag i }
+pub fn byte_at(i: usize, seed: u32, buffer: Buffer) -> u8
+    ensures { result ≡ pattern_byte seed (tag_of buffer) i }
 {
     let place = i % 251 * 31 + i / 256 % 251 * 17;
-    let buffer = (seed % 251 * 13 + tag % 251 * 101) as usize;
-    ((place + buffer) % 251) as u8
+    let start = (seed % 251 * 13 + buffer as u32 * 101) as usize;
+    ((place + start) % 251) as u8
 }
 
-pub fn fill(out: &mut [u8], seed: u32, tag: u32)
-    ensures { (k : ℕ) → k < length out.new → get_or out.new k 0 ≡ pattern_byte seed tag k }
+fn fill(out: &mut [u8], seed: u32, buffer: Buffer)
+    ensures { (k : ℕ) → k < length out.new → get_or out.new k 0 ≡ pattern_byte seed (tag_of buffer) k }
 {
-    let mut i = 0;
-    while i < out.len() {
-        out[i] = byte_at(i, seed, tag);
-        i += 1;
+    for (i, byte) in out.iter_mut().enumerate() {
+        *byte = byte_at(i, seed, buffer);
     }
 }
 
-pub fn is_filled(a: &[u8], seed: u32, tag: u32) -> bool
-    ensures { result ≡ true → (k : ℕ) → k < length a.now → get_or a.now k 0 ≡ pattern_byte seed tag k }
+// A buffer of this length as it is before the run.
+pub fn filled(alloc: Global, n: usize, seed: u32, buffer: Buffer) -> Result<Vec<u8>, AllocError>
+    ensures len { IfOk result (λ v. length v.items ≡ n) }
+    ensures bytes { IfOk result
+        (λ v. (k : ℕ) → k < n → get_or v.items k 0 ≡ pattern_byte seed (tag_of buffer) k) }
 {
-    let mut i = 0;
-    while i < a.len() {
-        if a[i] != byte_at(i, seed, tag) {
-            return false;
-        }
-        i += 1;
-    }
-    true
+    let mut bytes = vec![in alloc; 0; n]?;
+    fill(&mut bytes, seed, buffer);
+    Ok(bytes)
+}
+
+pub fn is_filled(a: &[u8], seed: u32, buffer: Buffer) -> bool
+    ensures { IsTrue result ↔
+        ((k : ℕ) → k < length a.now → get_or a.now k 0 ≡ pattern_byte seed (tag_of buffer) k) }
+{
+    a.iter()
+        .enumerate()
+        .all(|(i, byte)| *byte == byte_at(i, seed, buffer))
 }

@@ -1,9 +1,0 @@
--- the measure is the records left
-use Rattle.std.proofs.Common.{◌-◌, ◌≤◌}
-use Rattle.bench.proofs.print_answers.Given as goal
-
-abbrev pub invariant-loop-k : goal.invariant-loop-k
-invariant-loop-k g l = l.k ≤ l.n
-
-abbrev pub decreases-loop-k : goal.decreases-loop-k
-decreases-loop-k g l = l.n - l.k

@@ -1,0 +1,2 @@
+-- What the contracts of `figures` cite. Assumes nothing.
+pub mod Record

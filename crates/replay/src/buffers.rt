@@ -1,0 +1,124 @@
+// What a case lends to the library: each buffer is as long as the head says.
+ghost use Rattle.std.specs.Prelude.{◌≡◌};
+
+use crate::head::{Head, Operation};
+use crate::pattern;
+use crate::pattern::Buffer;
+use crate::sample::{BadSample, read_bytes};
+use bts::{Bill, Report};
+use model::Lengths;
+use std::alloc::Global;
+use std::io::Read;
+
+#[derive(Drop)]
+pub struct Buffers {
+    pub sheet: Vec<u8>,
+    pub board: Vec<u8>,
+    pub store: Vec<u8>,
+    pub bios: Vec<u8>,
+    pub rom: Vec<u8>,
+    pub answers: Vec<u8>,
+    // The shares or the grounds.
+    pub second: Vec<u8>,
+}
+
+// What has no tariff is told as a bill that charges nothing.
+fn uncharged(report: Report) -> Bill
+    ensures { result ≡ record { number = report.number; index = report.index; total = report.total; charge = 0 } }
+{
+    Bill {
+        number: report.number,
+        index: report.index,
+        total: report.total,
+        charge: 0,
+    }
+}
+
+impl Buffers {
+    // Reads the sheet and the board, and makes the rest.
+    pub fn read<R: Read>(alloc: Global, input: &mut R, head: Head) -> Result<Buffers, BadSample> {
+        let n = head.buffers;
+        let seed = head.asked.seed;
+        Ok(Buffers {
+            sheet: read_bytes(alloc, input, n.sheet)?,
+            board: read_bytes(alloc, input, n.board)?,
+            store: pattern::filled(alloc, n.store, seed, Buffer::Store)?,
+            bios: pattern::filled(alloc, n.bios, seed, Buffer::Bios)?,
+            rom: pattern::filled(alloc, n.rom, seed, Buffer::Rom)?,
+            answers: pattern::filled(alloc, n.answers, seed, Buffer::Answers)?,
+            second: pattern::filled(alloc, n.second, seed, Buffer::Second)?,
+        })
+    }
+
+    fn run_plain(&mut self, x: Lengths) -> Bill {
+        uncharged(bts::bts_run(
+            &self.sheet,
+            &mut self.board,
+            &mut self.store,
+            &self.bios,
+            &self.rom,
+            &mut self.answers,
+            x.ewram,
+            x.iwram,
+            x.io,
+            x.palette,
+            x.vram,
+            x.oam,
+            x.sram,
+        ))
+    }
+
+    fn run_tariff(&mut self, x: Lengths, rate: u32) -> Bill {
+        bts::bts_run_tariff(
+            &self.sheet,
+            &mut self.board,
+            &mut self.store,
+            &self.bios,
+            &self.rom,
+            &mut self.answers,
+            &mut self.second,
+            x.ewram,
+            x.iwram,
+            x.io,
+            x.palette,
+            x.vram,
+            x.oam,
+            x.sram,
+            rate,
+        )
+    }
+
+    fn run_grounds(&mut self, x: Lengths) -> Bill {
+        uncharged(bts::bts_run_grounds(
+            &self.sheet,
+            &mut self.board,
+            &mut self.store,
+            &self.bios,
+            &self.rom,
+            &mut self.answers,
+            &mut self.second,
+            x.ewram,
+            x.iwram,
+            x.io,
+            x.palette,
+            x.vram,
+            x.oam,
+            x.sram,
+        ))
+    }
+
+    fn preview(&mut self) -> Bill {
+        uncharged(bts::bts_preview(&self.sheet, &self.board, &mut self.answers))
+    }
+
+    // Does what the case asks.
+    pub fn run(&mut self, head: Head) -> Bill {
+        let lengths = head.memories;
+        match head.asked.operation {
+            Operation::Run => self.run_plain(lengths),
+            Operation::RunTariff => self.run_tariff(lengths, head.asked.rate),
+            Operation::Preview => self.preview(),
+            Operation::RunGrounds => self.run_grounds(lengths),
+        }
+    }
+}
