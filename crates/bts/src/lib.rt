@@ -16,7 +16,7 @@ ghost use Rattle.bts.specs.Told.{told, bill_for, report_of_refusal, bill_of_refu
 ghost use Rattle.bts.specs.Reported.{reported, reported_bill, reported_preview};
 ghost use Rattle.bts.specs.Explained.{reported_grounds};
 
-use examine::{examine_grounds, examine_tariff};
+use examine::Lent;
 use loads::Media;
 use model::{BOARD_LENGTH, Lengths, Refusal};
 use records::sheet;
@@ -123,7 +123,16 @@ fn run_examined(
     ensures { reported (told report_of_refusal result) board.new store.new answers.new
         ≡ outcome (lending sheet.now board.old store.old bios.now rom.now answers.old lengths) }
 {
-    examine::examine(sheet, board, store, bios, rom, answers, lengths)?;
+    let lent = Lent {
+        sheet,
+        board,
+        store,
+        bios,
+        rom,
+        answers,
+        lengths,
+    };
+    lent.examine()?;
     Ok(run_accepted(sheet, board, store, bios, rom, answers, lengths))
 }
 
@@ -176,9 +185,16 @@ fn bill_examined(
         ≡ bill (tariffing (lending sheet.now board.old store.old bios.now
         rom.now answers.old lengths) shares.old rate) }
 {
-    examine_tariff(
-        sheet, board, store, bios, rom, answers, shares, lengths, rate,
-    )?;
+    let lent = Lent {
+        sheet,
+        board,
+        store,
+        bios,
+        rom,
+        answers,
+        lengths,
+    };
+    lent.examine_tariff(shares, rate)?;
     let report = run_accepted(sheet, board, store, bios, rom, answers, lengths);
     tariff::put_shares(answers, report.index as usize, report.total, rate, shares);
     Ok(report.billed(tariff::charge(report.total, rate)))
@@ -239,7 +255,16 @@ fn explain_examined(
         ≡ explain (explaining (lending sheet.now board.old store.old bios.now
         rom.now answers.old lengths) grounds.old) }
 {
-    examine_grounds(sheet, board, store, bios, rom, answers, grounds, lengths)?;
+    let lent = Lent {
+        sheet,
+        board,
+        store,
+        bios,
+        rom,
+        answers,
+        lengths,
+    };
+    lent.examine_grounds(grounds)?;
     let clock = board::load_clock(board);
     let report = run_accepted(sheet, board, store, bios, rom, answers, lengths);
     grounds::put_grounds(sheet, report.index as usize, clock, answers, grounds);

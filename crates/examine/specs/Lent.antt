@@ -1,19 +1,24 @@
 -- All that a run is lent, as the definitions have it, a run under a tariff, a run with grounds, and a preview.
 use Rattle.std.specs.Prelude.{List, ℕ}
-use Rattle.model.specs.Outcome.{Lent}
+use Rattle.model.specs.Outcome as def
 use Rattle.model.specs.Tariff.{Tariffed}
 use Rattle.model.specs.Preview.{Asked}
 use Rattle.model.specs.Grounds.{Explaining}
 use Rattle.model.specs.declared.Lengths.{Lengths}
+use Rattle.examine.specs.declared.Lent.{Lent}
 
-abbrev pub lending : List ℕ → List ℕ → List ℕ → List ℕ → List ℕ → List ℕ → Lengths → Lent
+abbrev pub lending : List ℕ → List ℕ → List ℕ → List ℕ → List ℕ → List ℕ → Lengths → def.Lent
 lending sheet board store bios rom answers l =
     record { sheet = sheet; board = board; store = store; bios = bios; rom = rom; answers = answers; lengths = l }
 
-abbrev pub tariffing : Lent → List ℕ → ℕ → Tariffed
+-- what is read of it
+abbrev pub lent : Lent → def.Lent
+lent l = lending l.sheet.now l.board.now l.store.now l.bios.now l.rom.now l.answers.now l.lengths
+
+abbrev pub tariffing : def.Lent → List ℕ → ℕ → Tariffed
 tariffing i shares rate = record { run = i; shares = shares; rate = rate }
 
-abbrev pub explaining : Lent → List ℕ → Explaining
+abbrev pub explaining : def.Lent → List ℕ → Explaining
 explaining i grounds = record { run = i; grounds = grounds }
 
 abbrev pub asking : List ℕ → List ℕ → List ℕ → Asked

@@ -7,7 +7,7 @@ use Rattle.model.specs.Base.{AllBytes}
 use Rattle.model.specs.Memory.{lengths_sum}
 use Rattle.model.specs.Sheet.{latest_version, knows, is_marked, version_of, is_shaped, max_records, record_start, record_count, records_from, least_faulty}
 use Rattle.model.specs.BoardBytes.{board_length, answer_length, clock_of}
-use Rattle.model.specs.Outcome.{Lent, Row, row, by_row, first_row, sheet_rows, lengths_rows, board_rows, answers_rows}
+use Rattle.model.specs.Outcome.{Lent, Row, row, by_row, first_row, sheet_rows, answers_rows}
 use Rattle.model.specs.Outcome.{room_rows, fault_index, records_rows, sizes_fit, verdict}
 use Rattle.model.specs.Laws.Places.{sizes_small, Sized}
 use Rattle.model.proofs.Laws.Places.{small_sized}
@@ -23,11 +23,6 @@ use Rattle.model.specs.declared.Lengths.{Lengths}
 use Rattle.model.specs.declared.Refusal.{Refusal}
 use Rattle.model.specs.declared.Refusal.TheVariants.{ShortAnswers, FaultyRecord}
 use Rattle.model.specs.Verdict.{Verdict, Accepted, Refused}
-use Rattle.examine.specs.Lent.{lending}
-
--- the verdict on all that is lent, in the order of the functions' parameters
-abbrev pub Examined : List ℕ → List ℕ → List ℕ → List ℕ → List ℕ → List ℕ → Lengths → Verdict → Type 0
-Examined sheet board store bios rom answers l v = v ≡ verdict (lending sheet board store bios rom answers l)
 
 -- ---- a table in two parts
 
@@ -39,21 +34,9 @@ passed xs ys e a = first_append xs ys ∙ ap (λ (v : Verdict). or_else_of v (fi
 pub stopped : (xs ys : List Row) {v : Verdict} {q : Refusal} → v ≡ first_row xs → v ≡ Refused q → v ≡ first_row (xs ++ ys)
 stopped xs ys e r = r ∙ sym (first_append xs ys ∙ ap (λ (v : Verdict). or_else_of v (first_row ys)) (sym e ∙ r))
 
--- of the first five rows of every table, those behind the sheet's
-abbrev pub behind_sheet : Lent → List Row
-behind_sheet i = lengths_rows i.lengths (length i.store) (length i.bios) (length i.rom) ++ board_rows i.board
-
 -- what is left of the run's table behind its first five rows, and of a preview's behind its first four
 abbrev pub rest_rows : List ℕ → ℕ → List Row
 rest_rows sheet answers = answers_rows (record_count sheet) answers ++ records_rows sheet
-
-abbrev pub from_answers_of : Lent → List Row
-from_answers_of i = rest_rows i.sheet (length i.answers)
-
--- of that of a run with a second buffer
-abbrev pub from_room : Lent → ℕ → ℕ → List Row
-from_room i each second =
-    room_rows (record_count i.sheet) (length i.answers) each second ++ records_rows i.sheet
 
 -- ---- the row of the room
 

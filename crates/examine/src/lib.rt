@@ -8,8 +8,8 @@ ghost use Rattle.model.specs.Outcome as def;
 ghost use Rattle.model.specs.Tariff as tariff;
 ghost use Rattle.model.specs.Preview as preview;
 ghost use Rattle.model.specs.Grounds as reasons;
-ghost use Rattle.examine.specs.Lent.{lending, tariffing, asking, explaining};
-ghost use Rattle.examine.specs.Verdicts.{Shaped, RoomAsked, Examined, rest_rows};
+ghost use Rattle.examine.specs.Lent.{lent, tariffing, asking, explaining};
+ghost use Rattle.examine.specs.Verdicts.{Shaped, RoomAsked, rest_rows};
 
 use model::{
     ANSWER_LENGTH, FIRST_VERSION, LATEST_VERSION, Lengths, MAX_RATE, Refusal, SHARE_LENGTH,
@@ -133,23 +133,6 @@ pub fn examine_rate(rate: u32) -> Result<(), Refusal>
 
 // ---- the tables
 
-// The rows with which the table of every run begins: the sheet's head, the lengths, the board.
-pub fn examine_lent(
-    sheet: &[u8],
-    board: &[u8],
-    lengths: Lengths,
-    store: usize,
-    bios: usize,
-    rom: usize,
-) -> Result<(), Refusal>
-    ensures { result ≡ def.first_row (def.sheet_rows sheet.now
-        ++ (def.lengths_rows lengths store bios rom ++ def.board_rows board.now)) }
-{
-    examine_sheet(sheet)?;
-    examine_lengths(lengths, store, bios, rom)?;
-    examine_board(board)
-}
-
 // The rows with which the table of a run and of a preview ends: room for the answers, and the records. The sheet has its shape.
 fn examine_rest(sheet: &[u8], answers: usize) -> Result<(), Refusal>
     requires { Shaped sheet.now }
@@ -159,22 +142,73 @@ fn examine_rest(sheet: &[u8], answers: usize) -> Result<(), Refusal>
     examine_records(sheet)
 }
 
-// The first row of the run's table that holds.
-#[tactic(auto, unfolding(model::specs::Outcome::verdict))]
-pub fn examine(
-    sheet: &[u8],
-    board: &[u8],
-    store: &[u8],
-    bios: &[u8],
-    rom: &[u8],
-    answers: &[u8],
-    lengths: Lengths,
-) -> Result<(), Refusal>
-    ensures { Examined sheet.now board.now store.now
-        bios.now rom.now answers.now lengths result }
-{
-    examine_lent(sheet, board, lengths, store.len(), bios.len(), rom.len())?;
-    examine_rest(sheet, answers.len())
+// All that a caller lends to a run, as it is examined: nothing of it is written.
+#[derive(Clone, Copy)]
+pub struct Lent<'a> {
+    pub sheet: &'a [u8],
+    pub board: &'a [u8],
+    pub store: &'a [u8],
+    pub bios: &'a [u8],
+    pub rom: &'a [u8],
+    pub answers: &'a [u8],
+    pub lengths: Lengths,
+}
+
+impl<'a> Lent<'a> {
+    // The rows with which the table of every run begins: the sheet's head, the lengths, the board.
+    pub fn examine_lent(self) -> Result<(), Refusal>
+        ensures { result ≡ def.first_row (def.lent_rows (lent self.entry)) }
+    {
+        examine_sheet(self.sheet)?;
+        examine_lengths(
+            self.lengths,
+            self.store.len(),
+            self.bios.len(),
+            self.rom.len(),
+        )?;
+        examine_board(self.board)
+    }
+
+    // The first row of the run's table that holds.
+    #[tactic(auto, unfolding(model::specs::Outcome::verdict))]
+    pub fn examine(self) -> Result<(), Refusal>
+        ensures { result ≡ def.verdict (lent self.entry) }
+    {
+        self.examine_lent()?;
+        examine_rest(self.sheet, self.answers.len())
+    }
+
+    // The first row of the table of a run with a second buffer, which has `each` bytes a record.
+    fn examine_second(self, each: usize, second: usize) -> Result<(), Refusal>
+        requires { each ≤ 0xFFFF }
+        ensures { result ≡ def.first_row (def.second_rows (lent self.entry) each second) }
+    {
+        self.examine_lent()?;
+        examine_room(
+            sheet::record_count(self.sheet),
+            self.answers.len(),
+            each,
+            second,
+        )?;
+        examine_records(self.sheet)
+    }
+
+    // The first row of the tariff's table that holds: the run's, with room for the shares, and then the rate.
+    #[tactic(auto, unfolding(model::specs::Tariff::tariff_verdict))]
+    pub fn examine_tariff(self, shares: &[u8], rate: u32) -> Result<(), Refusal>
+        ensures { result ≡ tariff.tariff_verdict (tariffing (lent self.entry) shares.now rate) }
+    {
+        self.examine_second(SHARE_LENGTH, shares.len())?;
+        examine_rate(rate)
+    }
+
+    // The first row of the table of a run with grounds that holds: the run's, with room for the grounds.
+    #[tactic(auto, unfolding(model::specs::Grounds::grounds_verdict))]
+    pub fn examine_grounds(self, grounds: &[u8]) -> Result<(), Refusal>
+        ensures { result ≡ reasons.grounds_verdict (explaining (lent self.entry) grounds.now) }
+    {
+        self.examine_second(model::GROUNDS_LENGTH, grounds.len())
+    }
 }
 
 // The first row of a preview's table that holds: the run's without that of the lengths.
@@ -186,89 +220,6 @@ pub fn examine_preview(sheet: &[u8], board: &[u8], answers: &[u8]) -> Result<(),
     examine_board(board)?;
     let room = answers.len();
     examine_rest(sheet, room)
-}
-
-// The first row of the table of a run with a second buffer, which has `each` bytes a record.
-fn examine_second(
-    sheet: &[u8],
-    board: &[u8],
-    store: &[u8],
-    bios: &[u8],
-    rom: &[u8],
-    answers: &[u8],
-    lengths: Lengths,
-    each: usize,
-    second: usize,
-) -> Result<(), Refusal>
-    requires { each ≤ 0xFFFF }
-    ensures { result ≡ def.first_row (def.second_rows (lending sheet.now board.now store.now
-        bios.now rom.now answers.now lengths) each second) }
-{
-    examine_lent(sheet, board, lengths, store.len(), bios.len(), rom.len())?;
-    let n = sheet::record_count(sheet);
-    examine_room(n, answers.len(), each, second)?;
-    examine_records(sheet)
-}
-
-// The first row of the tariff's table that holds: the run's, with room for the shares, and then the rate.
-#[tactic(auto, unfolding(model::specs::Tariff::tariff_verdict))]
-pub fn examine_tariff(
-    sheet: &[u8],
-    board: &[u8],
-    store: &[u8],
-    bios: &[u8],
-    rom: &[u8],
-    answers: &[u8],
-    shares: &[u8],
-    lengths: Lengths,
-    rate: u32,
-) -> Result<(), Refusal>
-    ensures { result ≡ tariff.tariff_verdict (tariffing (lending sheet.now board.now store.now
-        bios.now rom.now answers.now lengths) shares.now rate) }
-{
-    let room = shares.len();
-    let run = examine_second(
-        sheet,
-        board,
-        store,
-        bios,
-        rom,
-        answers,
-        lengths,
-        SHARE_LENGTH,
-        room,
-    );
-    let fair = examine_rate(rate);
-    run.and(fair)
-}
-
-// The first row of the table of a run with grounds that holds: the run's, with room for the grounds.
-#[tactic(auto, unfolding(model::specs::Grounds::grounds_verdict))]
-pub fn examine_grounds(
-    sheet: &[u8],
-    board: &[u8],
-    store: &[u8],
-    bios: &[u8],
-    rom: &[u8],
-    answers: &[u8],
-    grounds: &[u8],
-    lengths: Lengths,
-) -> Result<(), Refusal>
-    ensures { result ≡ reasons.grounds_verdict (explaining (lending sheet.now board.now
-        store.now bios.now rom.now answers.now lengths) grounds.now) }
-{
-    let room = grounds.len();
-    examine_second(
-        sheet,
-        board,
-        store,
-        bios,
-        rom,
-        answers,
-        lengths,
-        model::GROUNDS_LENGTH,
-        room,
-    )
 }
 
 // The documents' number of a refusal.
