@@ -24,8 +24,7 @@ fn read_bios8(addr: u32, pc: u32, latch: u32, bios: &[u8]) -> u8
     let state = OpenBusState {
         last_bios_opcode: latch,
     };
-    let protect = openbus::bios_protect_read(pc, state);
-    match protect {
+    match openbus::bios_protect_read(pc, state) {
         Some(opcode) => openbus::bios_protect_byte(opcode, addr),
         None => le::byte_at(bios, addr as usize),
     }
@@ -61,8 +60,7 @@ fn read8(
         Target::Unused => 0,
         Target::SystemRom => read_bios8(addr, pc, latch, bios),
         Target::GamePakRom => le::byte_at(rom, rom_offset(addr)),
-        Target::Plain(part, index) => byte_in(store, part, index),
-        Target::Video(_memory, part, index) => byte_in(store, part, index),
+        Target::Plain(part, index) | Target::Video(_, part, index) => byte_in(store, part, index),
         Target::Sram(part, index) => read_sram8(store, part, index),
     }
 }
@@ -150,12 +148,9 @@ fn word_from(target: Target, addr: u32, rom: &[u8], store: &[u8]) -> Option<u32>
     ensures { result ≡ words.word_from rom.now store.now addr target }
 {
     match target {
-        Target::Unused => None,
-        Target::SystemRom => None,
         Target::GamePakRom => word_of_rom(rom, rom_offset(addr)),
-        Target::Plain(part, index) => word_in(store, part, index),
-        Target::Video(_memory, part, index) => word_in(store, part, index),
-        Target::Sram(_part, _index) => None,
+        Target::Plain(part, index) | Target::Video(_, part, index) => word_in(store, part, index),
+        Target::Unused | Target::SystemRom | Target::Sram(_, _) => None,
     }
 }
 
@@ -181,14 +176,7 @@ fn low_bytes(size: AccessSize, word: u32) -> u32
 fn reads_zero(target: Target) -> bool
     ensures { result ≡ words.reads_zero target }
 {
-    match target {
-        Target::Unused => true,
-        Target::SystemRom => false,
-        Target::GamePakRom => true,
-        Target::Plain(_part, _index) => true,
-        Target::Video(_memory, _part, _index) => true,
-        Target::Sram(_part, _index) => false,
-    }
+    !matches!(target, Target::SystemRom | Target::Sram(_, _))
 }
 
 // By bytes, each decoded by itself, as the Rust does it. Over no store and no ROM, as in a preview, an aligned load is 0 at once.
@@ -234,8 +222,7 @@ pub fn read(
     ensures { result ≡ def.load lengths (bus pc latch bios.now rom.now store.now) size addr }
 {
     if addr % size_bytes(size) == 0 {
-        let loaded = word_from(target, addr, rom, store);
-        if let Some(word) = loaded {
+        if let Some(word) = word_from(target, addr, rom, store) {
             return low_bytes(size, word);
         }
     }

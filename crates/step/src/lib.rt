@@ -24,7 +24,6 @@ use model::{
     AccessSize, Answer, Clock, Contents, IsaState, Lengths, PrefetchBuffer, Region, Step, Target,
     TimingInput, Version, VideoMemory,
 };
-use stores::saturating_add;
 use waits::waitcnt::WaitCnt;
 
 // A step up to its idle cycles, and how many of them follow.
@@ -84,13 +83,10 @@ fn data_price(
 fn accessed(clock: Clock, size: AccessSize, addr: u32) -> Clock
     ensures { result ≡ machine.with_previous clock (previously addr (size_bytes_of size)) }
 {
-    let prefetch = clock.prefetch;
     Clock {
-        waitcnt: clock.waitcnt,
-        force_next_fetch_n: clock.force_next_fetch_n,
-        prefetch,
         prev_addr: addr,
         prev_size: waits::shifted_bytes(size),
+        ..clock
     }
 }
 
@@ -140,15 +136,14 @@ fn with_counters(contents: Contents, vram: u64, oam: u64, palette: u64) -> Conte
     ensures { result ≡ machine.with_counts contents vram oam palette }
 {
     Contents {
-        cpu_pc: contents.cpu_pc,
-        last_bios_opcode: contents.last_bios_opcode,
         vram_write_count: vram,
         oam_write_count: oam,
         palette_write_count: palette,
+        ..contents
     }
 }
 
-// n halfwords go to the counter of a video memory.
+// n halfwords go to the counter of a video memory, which stops at its greatest number.
 fn count_in(contents: Contents, memory: VideoMemory, n: u64) -> Contents
     ensures { result ≡ machine.counted_in memory n contents }
 {
@@ -156,9 +151,9 @@ fn count_in(contents: Contents, memory: VideoMemory, n: u64) -> Contents
     let oam = contents.oam_write_count;
     let palette = contents.palette_write_count;
     match memory {
-        VideoMemory::PaletteRam => with_counters(contents, vram, oam, saturating_add(palette, n)),
-        VideoMemory::VideoRam => with_counters(contents, saturating_add(vram, n), oam, palette),
-        VideoMemory::ObjectRam => with_counters(contents, vram, saturating_add(oam, n), palette),
+        VideoMemory::PaletteRam => with_counters(contents, vram, oam, palette.saturating_add(n)),
+        VideoMemory::VideoRam => with_counters(contents, vram.saturating_add(n), oam, palette),
+        VideoMemory::ObjectRam => with_counters(contents, vram, oam.saturating_add(n), palette),
     }
 }
 
@@ -167,12 +162,12 @@ fn count_store(contents: Contents, target: Target, n: u64) -> Contents
     ensures { result ≡ machine.counted_at target n contents }
 {
     match target {
-        Target::Unused => contents,
-        Target::SystemRom => contents,
-        Target::GamePakRom => contents,
-        Target::Plain(_, _) => contents,
         Target::Video(memory, _, _) => count_in(contents, memory, n),
-        Target::Sram(_, _) => contents,
+        Target::Unused
+        | Target::SystemRom
+        | Target::GamePakRom
+        | Target::Plain(_, _)
+        | Target::Sram(_, _) => contents,
     }
 }
 
@@ -402,36 +397,25 @@ fn set_waitcnt(clock: Clock, value: u16) -> Clock
     let prefetch = prefetch::set_enabled(p, register.prefetch_enable());
     Clock {
         waitcnt: register.raw,
-        force_next_fetch_n: clock.force_next_fetch_n,
         prefetch,
-        prev_addr: clock.prev_addr,
-        prev_size: clock.prev_size,
+        ..clock
     }
 }
 
 fn with_prefetch(clock: Clock, prefetch: PrefetchBuffer) -> Clock
     ensures { result ≡ machine.with_prefetch clock prefetch }
 {
-    Clock {
-        waitcnt: clock.waitcnt,
-        force_next_fetch_n: clock.force_next_fetch_n,
-        prefetch,
-        prev_addr: clock.prev_addr,
-        prev_size: clock.prev_size,
-    }
+    Clock { prefetch, ..clock }
 }
 
 // The clock after a step that clears the previous data access (W-204).
 fn cleared(clock: Clock) -> Clock
     ensures { result ≡ machine.cleared clock }
 {
-    let prefetch = clock.prefetch;
     Clock {
-        waitcnt: clock.waitcnt,
-        force_next_fetch_n: clock.force_next_fetch_n,
-        prefetch,
         prev_addr: 0,
         prev_size: 0,
+        ..clock
     }
 }
 
@@ -558,11 +542,11 @@ fn instruction_step(
     let prefetch = fetch.prefetch;
     let none: u32 = 0;
     let after = Clock {
-        waitcnt: clock.waitcnt,
         force_next_fetch_n: price.latch_disable_bug,
         prefetch,
         prev_addr: none,
         prev_size: none,
+        ..clock
     };
     Begun {
         clock: after,
@@ -580,10 +564,7 @@ fn with_pc(contents: Contents, pc: u32) -> Contents
 {
     Contents {
         cpu_pc: pc,
-        last_bios_opcode: contents.last_bios_opcode,
-        vram_write_count: contents.vram_write_count,
-        oam_write_count: contents.oam_write_count,
-        palette_write_count: contents.palette_write_count,
+        ..contents
     }
 }
 
@@ -592,11 +573,8 @@ fn with_latch(contents: Contents, latch: u32) -> Contents
     ensures { result ≡ machine.with_latch contents latch }
 {
     Contents {
-        cpu_pc: contents.cpu_pc,
         last_bios_opcode: latch,
-        vram_write_count: contents.vram_write_count,
-        oam_write_count: contents.oam_write_count,
-        palette_write_count: contents.palette_write_count,
+        ..contents
     }
 }
 
