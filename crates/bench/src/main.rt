@@ -23,10 +23,7 @@ fn say<E: Eprint>(rt: &E, words: &str) {
 // The word of a ground, behind a space.
 fn print_name<P: Print>(rt: &P, ground: Ground) -> io::Result<()> {
     let name = ground_name(ground);
-    let letters = name.letters;
-    let n = name.length;
-    rt.print(" ")?;
-    rt.write_all(&letters[..n])
+    print!(rt; " {name}")
 }
 
 fn print_ground<P: Print>(rt: &P, beat: Option<Ground>) -> io::Result<()> {

@@ -97,18 +97,16 @@ fn sound_row(p: PrefetchBuffer) -> bool
     in_window(p.head_addr) & in_window(p.next_addr - 2)
 }
 
-// What prefetch off asks.
+// What prefetch off asks: nothing stands in the buffer, and no beat is in flight.
 #[tactic(auto, unfolding(model::specs::BoardBytes::is_zero))]
 fn is_zero(p: PrefetchBuffer) -> bool
     ensures { result ≡ def.is_zero p }
 {
-    (p.head == 0)
-        & (p.count == 0)
-        & !p.filling
-        & !p.first_beat
-        & (p.wait_left == 0)
-        & (p.next_addr == 0)
-        & (p.head_addr == 0)
+    let emptied = PrefetchBuffer {
+        enabled: p.enabled,
+        ..PrefetchBuffer::new()
+    };
+    p == emptied
 }
 
 // The count comes first: the sum of the row must not wrap.

@@ -1,7 +1,6 @@
 // A ground, its byte in a lent buffer, and document 02's name of it.
 ghost use Rattle.std.specs.Prelude.{◌≡◌};
 ghost use Rattle.model.specs.Grounds as def;
-ghost use Rattle.grounds.specs.Names.{named};
 
 use model::Ground;
 
@@ -40,52 +39,19 @@ pub fn beat_ground(byte: u8) -> Option<Ground>
     }
 }
 
-// A name: so many letters, the rest zero.
-#[derive(Clone, Copy)]
-pub struct Name {
-    pub letters: [u8; 7],
-    pub length: usize,
-}
-
-pub fn ground_name(g: Ground) -> Name
-    ensures { result ≡ named g }
+// A word of its own, without spaces.
+pub fn ground_name(g: Ground) -> &'static str
+    ensures { result.now ≡ def.ground_name g }
 {
     match g {
-        Ground::BufferHit => Name {
-            letters: *b"hit\0\0\0\0",
-            length: 3,
-        },
-        Ground::Sequential => Name {
-            letters: *b"seq\0\0\0\0",
-            length: 3,
-        },
-        Ground::ByFlag => Name {
-            letters: *b"flag\0\0\0",
-            length: 4,
-        },
-        Ground::ByBlock => Name {
-            letters: *b"block\0\0",
-            length: 5,
-        },
-        Ground::ByAddress => Name {
-            letters: *b"address",
-            length: 7,
-        },
-        Ground::EwramBus => Name {
-            letters: *b"ewram\0\0",
-            length: 5,
-        },
-        Ground::SramBus => Name {
-            letters: *b"sram\0\0\0",
-            length: 4,
-        },
-        Ground::VideoBus => Name {
-            letters: *b"video\0\0",
-            length: 5,
-        },
-        Ground::Fast => Name {
-            letters: *b"fast\0\0\0",
-            length: 4,
-        },
+        Ground::BufferHit => "hit",
+        Ground::Sequential => "seq",
+        Ground::ByFlag => "flag",
+        Ground::ByBlock => "block",
+        Ground::ByAddress => "address",
+        Ground::EwramBus => "ewram",
+        Ground::SramBus => "sram",
+        Ground::VideoBus => "video",
+        Ground::Fast => "fast",
     }
 }

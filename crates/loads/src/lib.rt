@@ -62,8 +62,7 @@ fn read_bios8(addr: u32, pc: u32, latch: u32, bios: &[u8]) -> u8
     let state = OpenBusState {
         last_bios_opcode: latch,
     };
-    let protect = openbus::bios_protect_read(pc, state);
-    match protect {
+    match openbus::bios_protect_read(pc, state) {
         Some(opcode) => openbus::bios_protect_byte(opcode, addr),
         None => le::byte_at(bios, addr as usize),
     }

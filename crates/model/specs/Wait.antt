@@ -2,7 +2,7 @@
 -- From GBATEK, "GBA Memory Map" (access times) and "GBA System Control" (waitstates); src/bus/wait.rs; document 01, "wait.rs".
 use Rattle.std.specs.Prelude.{Bool, true, false, not, ◌&&◌, [], ℕ, ◌+◌, ◌%◌, ◌^◌, get_or, eqb, ltb}
 use Rattle.std.specs.Prelude.{if◌then◌else◌}
-use Rattle.std.specs.Prelude.{Option, Some, None}
+use Rattle.std.specs.Prelude.{Option, Some, None, is_some}
 use Rattle.model.specs.Base.{further, lowered}
 use Rattle.model.specs.Region.{page}
 use Rattle.model.specs.Waitcnt.{Waits}
@@ -47,8 +47,7 @@ unfoldable pub window : ℕ → Option RomWindow
 window a = window_at (page a)
 
 abbrev pub is_in : Option RomWindow → Bool
-is_in (Some win) = true
-is_in None = false
+is_in v = is_some v
 
 abbrev pub in_window : ℕ → Bool
 in_window a = is_in (window a)

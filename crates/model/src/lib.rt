@@ -60,7 +60,7 @@ pub enum AccessSize {
 // ---- src/bus/prefetch.rs
 
 // The prefetch buffer without its eight halfwords, which stand beside it: time does not depend on them.
-#[derive(Clone, Copy)]
+#[derive(Clone, Copy, PartialEq)]
 pub struct PrefetchBuffer {
     pub head: usize,
     pub count: usize,

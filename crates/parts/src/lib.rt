@@ -93,7 +93,7 @@ pub fn target_in(region: Region, addr: u32, lengths: Lengths) -> Target
 {
     match region {
         Region::Bios => Target::SystemRom,
-        Region::UnusedLow => Target::Unused,
+        Region::UnusedLow | Region::UnusedHigh => Target::Unused,
         Region::Ewram => Target::Plain(ewram(lengths), mirror::ewram_offset(addr)),
         Region::Iwram => Target::Plain(iwram(lengths), mirror::iwram_offset(addr)),
         Region::Io => io_target(io(lengths), mirror::io_offset(addr)),
@@ -112,11 +112,8 @@ pub fn target_in(region: Region, addr: u32, lengths: Lengths) -> Target
             oam(lengths),
             mirror::oam_offset(addr),
         ),
-        Region::GamePakRomWs0 => Target::GamePakRom,
-        Region::GamePakRomWs1 => Target::GamePakRom,
-        Region::GamePakRomWs2 => Target::GamePakRom,
+        Region::GamePakRomWs0 | Region::GamePakRomWs1 | Region::GamePakRomWs2 => Target::GamePakRom,
         Region::GamePakSram => Target::Sram(sram(lengths), mirror::sram_window_offset(addr)),
-        Region::UnusedHigh => Target::Unused,
     }
 }
 
@@ -132,14 +129,7 @@ pub fn target_of(addr: u32, lengths: Lengths) -> Target
 pub fn is_sram(target: Target) -> bool
     ensures { result ≡ def.is_sram target }
 {
-    match target {
-        Target::Unused => false,
-        Target::SystemRom => false,
-        Target::GamePakRom => false,
-        Target::Plain(_, _) => false,
-        Target::Video(_, _, _) => false,
-        Target::Sram(_, _) => true,
-    }
+    matches!(target, Target::Sram(_, _))
 }
 
 // ---- a memory as its part of the store, lent on: past its end a load gives 0 and a store is dropped

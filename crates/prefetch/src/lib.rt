@@ -2,7 +2,7 @@
 // src/bus/prefetch.rs. The buffer goes in by value and comes back; its eight halfwords are lent beside it.
 #![tactic(auto)]
 
-ghost use Rattle.std.specs.Prelude.{◌≡◌, ◌-◌, ◌<◌, ◌≤◌, min};
+ghost use Rattle.std.specs.Prelude.{◌≡◌, ◌-◌, ◌<◌, ◌≤◌};
 ghost use Rattle.model.specs.Base as base;
 ghost use Rattle.model.specs.Load as load;
 ghost use Rattle.model.specs.Mirror as mirrored;
@@ -34,14 +34,8 @@ pub fn drain(buffer: PrefetchBuffer) -> PrefetchBuffer
     ensures { result ≡ def.drained buffer }
 {
     PrefetchBuffer {
-        head: 0,
-        count: 0,
-        next_addr: 0,
-        wait_left: 0,
-        head_addr: 0,
         enabled: buffer.enabled,
-        filling: false,
-        first_beat: false,
+        ..PrefetchBuffer::new()
     }
 }
 
@@ -53,8 +47,10 @@ pub fn set_enabled(buffer: PrefetchBuffer, enable: bool) -> PrefetchBuffer
     if buffer.enabled == enable {
         return buffer;
     }
-    let mut switched = buffer;
-    switched.enabled = enable;
+    let switched = PrefetchBuffer {
+        enabled: enable,
+        ..buffer
+    };
     if enable {
         return switched;
     }
@@ -66,18 +62,20 @@ pub fn set_enabled(buffer: PrefetchBuffer, enable: bool) -> PrefetchBuffer
 pub fn restart(buffer: PrefetchBuffer, addr: u32, waits: [[u8; 2]; 3]) -> PrefetchBuffer
     ensures { result ≡ def.restart waits buffer addr }
 {
-    let mut started = drain(buffer);
+    let drained = drain(buffer);
     if !buffer.enabled {
-        return started;
+        return drained;
     }
     let Some(window) = waits::window_from_addr(addr) else {
-        return started;
+        return drained;
     };
-    started.next_addr = addr / 2 * 2;
-    started.first_beat = true;
-    started.filling = true;
-    started.wait_left = waits::rom_half_cycles(waits, window, AccessKind::Nonseq);
-    started
+    PrefetchBuffer {
+        next_addr: addr / 2 * 2,
+        first_beat: true,
+        filling: true,
+        wait_left: waits::rom_half_cycles(waits, window, AccessKind::Nonseq),
+        ..drained
+    }
 }
 
 // ---- beats: a beat fetches one halfword from ROM
@@ -104,16 +102,19 @@ fn rom_half(rom: &[u8], addr: u32) -> u16
 fn start_beat(buffer: PrefetchBuffer, waits: [[u8; 2]; 3]) -> PrefetchBuffer
     ensures { result ≡ def.start_beat waits buffer }
 {
-    let mut next = buffer;
     let Some(window) = waits::window_from_addr(buffer.next_addr) else {
-        next.filling = false;
-        return next;
+        return PrefetchBuffer {
+            filling: false,
+            ..buffer
+        };
     };
     let kind = waits::nonseq_if(buffer.first_beat);
-    next.first_beat = false;
-    next.wait_left = waits::rom_half_cycles_at(waits, buffer.next_addr, window, kind);
-    next.filling = true;
-    next
+    PrefetchBuffer {
+        first_beat: false,
+        wait_left: waits::rom_half_cycles_at(waits, buffer.next_addr, window, kind),
+        filling: true,
+        ..buffer
+    }
 }
 
 // With no beat in flight, room in the buffer and a window to fetch from, a beat starts.
@@ -140,14 +141,12 @@ fn arrive(buffer: PrefetchBuffer) -> PrefetchBuffer
         buffer.head_addr
     };
     PrefetchBuffer {
-        head: buffer.head,
         count: buffer.count + 1,
         next_addr,
         wait_left: 0,
         head_addr,
-        enabled: buffer.enabled,
         filling: false,
-        first_beat: buffer.first_beat,
+        ..buffer
     }
 }
 
@@ -166,27 +165,14 @@ fn end_beat(buffer: PrefetchBuffer, waits: [[u8; 2]; 3]) -> PrefetchBuffer
 
 // ---- idle cycles
 
-// `a.min(b)`.
-fn least(a: u32, b: u32) -> u32
-    ensures { result ≡ min a b }
-{
-    if a <= b { a } else { b }
-}
-
 // Fewer cycles than the beat in flight has left only shorten it.
 fn shorten(buffer: PrefetchBuffer, cycles: u32) -> PrefetchBuffer
     requires { cycles ≤ buffer.wait_left }
     ensures { result ≡ def.with_wait (buffer.wait_left - cycles) buffer }
 {
     PrefetchBuffer {
-        head: buffer.head,
-        count: buffer.count,
-        next_addr: buffer.next_addr,
         wait_left: buffer.wait_left - cycles,
-        head_addr: buffer.head_addr,
-        enabled: buffer.enabled,
-        filling: buffer.filling,
-        first_beat: buffer.first_beat,
+        ..buffer
     }
 }
 
@@ -232,7 +218,7 @@ pub fn tick_idle(
     let mut current = ready(buffer, waits);
     let mut left = cycles;
     while left > 0 && current.filling {
-        let step = least(left, current.wait_left);
+        let step = left.min(current.wait_left);
         current = run_beat(current, halves, step, waits, rom);
         left -= step;
     }
@@ -281,12 +267,8 @@ fn take(buffer: PrefetchBuffer) -> PrefetchBuffer
     PrefetchBuffer {
         head: (buffer.head + 1) % PREFETCH_CAPACITY,
         count: buffer.count - 1,
-        next_addr: buffer.next_addr,
-        wait_left: buffer.wait_left,
         head_addr,
-        enabled: buffer.enabled,
-        filling: buffer.filling,
-        first_beat: buffer.first_beat,
+        ..buffer
     }
 }
 

@@ -61,19 +61,15 @@ pub fn bus_width(region: Region) -> Option<BusWidth>
     ensures { result ≡ map.bus_width region }
 {
     match region {
-        Region::Bios => Some(BusWidth::Bits32),
-        Region::UnusedLow => None,
-        Region::Ewram => Some(BusWidth::Bits16),
-        Region::Iwram => Some(BusWidth::Bits32),
-        Region::Io => Some(BusWidth::Bits32),
-        Region::Palette => Some(BusWidth::Bits16),
-        Region::Vram => Some(BusWidth::Bits16),
-        Region::Oam => Some(BusWidth::Bits32),
-        Region::GamePakRomWs0 => Some(BusWidth::Bits16),
-        Region::GamePakRomWs1 => Some(BusWidth::Bits16),
-        Region::GamePakRomWs2 => Some(BusWidth::Bits16),
+        Region::Bios | Region::Iwram | Region::Io | Region::Oam => Some(BusWidth::Bits32),
+        Region::Ewram
+        | Region::Palette
+        | Region::Vram
+        | Region::GamePakRomWs0
+        | Region::GamePakRomWs1
+        | Region::GamePakRomWs2 => Some(BusWidth::Bits16),
         Region::GamePakSram => Some(BusWidth::Bits8),
-        Region::UnusedHigh => None,
+        Region::UnusedLow | Region::UnusedHigh => None,
     }
 }
 
@@ -81,21 +77,10 @@ pub fn bus_width(region: Region) -> Option<BusWidth>
 pub fn is_game_pak_rom(region: Region) -> bool
     ensures { result ≡ map.is_game_pak_rom region }
 {
-    match region {
-        Region::Bios => false,
-        Region::UnusedLow => false,
-        Region::Ewram => false,
-        Region::Iwram => false,
-        Region::Io => false,
-        Region::Palette => false,
-        Region::Vram => false,
-        Region::Oam => false,
-        Region::GamePakRomWs0 => true,
-        Region::GamePakRomWs1 => true,
-        Region::GamePakRomWs2 => true,
-        Region::GamePakSram => false,
-        Region::UnusedHigh => false,
-    }
+    matches!(
+        region,
+        Region::GamePakRomWs0 | Region::GamePakRomWs1 | Region::GamePakRomWs2
+    )
 }
 
 // The unused areas have no memory. Ported for completeness: nothing calls it yet; the page tables to come will.
@@ -104,17 +89,16 @@ pub fn physical_size(region: Region) -> Option<usize>
 {
     match region {
         Region::Bios => Some(BIOS_SIZE),
-        Region::UnusedLow => None,
         Region::Ewram => Some(EWRAM_SIZE),
         Region::Iwram => Some(IWRAM_SIZE),
         Region::Io => Some(IO_SIZE),
         Region::Palette => Some(PALETTE_SIZE),
         Region::Vram => Some(VRAM_SIZE),
         Region::Oam => Some(OAM_SIZE),
-        Region::GamePakRomWs0 => Some(ROM_WINDOW_SIZE),
-        Region::GamePakRomWs1 => Some(ROM_WINDOW_SIZE),
-        Region::GamePakRomWs2 => Some(ROM_WINDOW_SIZE),
+        Region::GamePakRomWs0 | Region::GamePakRomWs1 | Region::GamePakRomWs2 => {
+            Some(ROM_WINDOW_SIZE)
+        }
         Region::GamePakSram => Some(SRAM_WINDOW_SIZE),
-        Region::UnusedHigh => None,
+        Region::UnusedLow | Region::UnusedHigh => None,
     }
 }

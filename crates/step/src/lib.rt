@@ -27,7 +27,6 @@ use model::{
     AccessSize, Answer, Clock, Contents, IsaState, Lengths, PrefetchBuffer, Previous, Region, Step,
     Target, TimingInput, Version, VideoMemory,
 };
-use stores::saturating_add;
 use waits::waitcnt::WaitCnt;
 
 pub mod machine;
@@ -80,13 +79,10 @@ fn data_price(
 fn accessed(clock: Clock, size: AccessSize, addr: u32) -> Clock
     ensures { result ≡ steps.with_previous clock (previously addr (size_bytes_of size)) }
 {
-    let prefetch = clock.prefetch;
     let bytes = waits::shifted_bytes(size);
     Clock {
-        waitcnt: clock.waitcnt,
-        force_next_fetch_n: clock.force_next_fetch_n,
-        prefetch,
         previous: Previous { addr, size: bytes },
+        ..clock
     }
 }
 
@@ -140,15 +136,14 @@ fn with_counters(contents: Contents, vram: u64, oam: u64, palette: u64) -> Conte
     ensures { result ≡ steps.with_counts contents vram oam palette }
 {
     Contents {
-        cpu_pc: contents.cpu_pc,
-        last_bios_opcode: contents.last_bios_opcode,
         vram_write_count: vram,
         oam_write_count: oam,
         palette_write_count: palette,
+        ..contents
     }
 }
 
-// n halfwords go to the counter of a video memory.
+// n halfwords go to the counter of a video memory, which stops at its greatest number.
 fn count_in(contents: Contents, memory: VideoMemory, n: u64) -> Contents
     ensures { result ≡ steps.counted_in memory n contents }
 {
@@ -156,9 +151,9 @@ fn count_in(contents: Contents, memory: VideoMemory, n: u64) -> Contents
     let oam = contents.oam_write_count;
     let palette = contents.palette_write_count;
     match memory {
-        VideoMemory::PaletteRam => with_counters(contents, vram, oam, saturating_add(palette, n)),
-        VideoMemory::VideoRam => with_counters(contents, saturating_add(vram, n), oam, palette),
-        VideoMemory::ObjectRam => with_counters(contents, vram, saturating_add(oam, n), palette),
+        VideoMemory::PaletteRam => with_counters(contents, vram, oam, palette.saturating_add(n)),
+        VideoMemory::VideoRam => with_counters(contents, vram.saturating_add(n), oam, palette),
+        VideoMemory::ObjectRam => with_counters(contents, vram, oam.saturating_add(n), palette),
     }
 }
 
@@ -167,12 +162,12 @@ fn count_store(contents: Contents, target: Target, n: u64) -> Contents
     ensures { result ≡ steps.counted_at target n contents }
 {
     match target {
-        Target::Unused => contents,
-        Target::SystemRom => contents,
-        Target::GamePakRom => contents,
-        Target::Plain(_, _) => contents,
         Target::Video(memory, _, _) => count_in(contents, memory, n),
-        Target::Sram(_, _) => contents,
+        Target::Unused
+        | Target::SystemRom
+        | Target::GamePakRom
+        | Target::Plain(_, _)
+        | Target::Sram(_, _) => contents,
     }
 }
 
@@ -374,33 +369,24 @@ fn set_waitcnt(clock: Clock, value: u16) -> Clock
     let prefetch = prefetch::set_enabled(p, register.prefetch_enable());
     Clock {
         waitcnt: register.raw,
-        force_next_fetch_n: clock.force_next_fetch_n,
         prefetch,
-        previous: clock.previous,
+        ..clock
     }
 }
 
 fn with_prefetch(clock: Clock, prefetch: PrefetchBuffer) -> Clock
     ensures { result ≡ steps.with_prefetch clock prefetch }
 {
-    Clock {
-        waitcnt: clock.waitcnt,
-        force_next_fetch_n: clock.force_next_fetch_n,
-        prefetch,
-        previous: clock.previous,
-    }
+    Clock { prefetch, ..clock }
 }
 
 // The clock after a step that clears the previous data access (W-204).
 fn cleared(clock: Clock) -> Clock
     ensures { result ≡ steps.cleared clock }
 {
-    let prefetch = clock.prefetch;
     Clock {
-        waitcnt: clock.waitcnt,
-        force_next_fetch_n: clock.force_next_fetch_n,
-        prefetch,
         previous: Previous::none(),
+        ..clock
     }
 }
 
@@ -530,10 +516,10 @@ fn instruction_step(
     let prefetch = fetch.prefetch;
     let none = Previous::none();
     let after = Clock {
-        waitcnt: clock.waitcnt,
         force_next_fetch_n: price.latch_disable_bug,
         prefetch,
         previous: none,
+        ..clock
     };
     Begun {
         clock: after,
@@ -551,10 +537,7 @@ fn with_pc(contents: Contents, pc: u32) -> Contents
 {
     Contents {
         cpu_pc: pc,
-        last_bios_opcode: contents.last_bios_opcode,
-        vram_write_count: contents.vram_write_count,
-        oam_write_count: contents.oam_write_count,
-        palette_write_count: contents.palette_write_count,
+        ..contents
     }
 }
 
@@ -563,11 +546,8 @@ fn with_latch(contents: Contents, latch: u32) -> Contents
     ensures { result ≡ steps.with_latch contents latch }
 {
     Contents {
-        cpu_pc: contents.cpu_pc,
         last_bios_opcode: latch,
-        vram_write_count: contents.vram_write_count,
-        oam_write_count: contents.oam_write_count,
-        palette_write_count: contents.palette_write_count,
+        ..contents
     }
 }
 

@@ -9,7 +9,7 @@ use lib.ListN.{length}
 use lib.Dec.{ltb, leb, lit<, lit≤}
 use borrow.Author.Tests.{ltb-false, le-leb}
 use Rattle.std.specs.Prelude.{if◌then◌else◌}
-use Rattle.std.specs.Prelude.{Option, Some, None}
+use Rattle.std.specs.Prelude.{Option, Some, None, unwrap_or}
 use Rattle.model.specs.Base.{bit, lowered, byte_of}
 use Rattle.model.specs.Region.{vram_size}
 use Rattle.model.specs.Video.{obj_vram_base, is_obj_vram, fills}
@@ -26,6 +26,7 @@ use Rattle.parts.specs.declared.Stored.{Stored}
 use Rattle.model.specs.declared.VideoMemory.TheVariants.{VideoRam}
 use Rattle.video.specs.Actions.{vram_target, vram_class, doubled, fills_halfword, byte_action}
 use Rattle.video.specs.declared.VideoTarget.{VideoTarget}
+use Rattle.video.specs.declared.VideoTarget.TheVariants.{ObjVram}
 use Rattle.video.specs.declared.VideoWriteAction.{VideoWriteAction}
 use Rattle.video.specs.declared.VideoWriteAction.TheVariants.{Store, ExpandByteToHalfword, Ignore, Reject}
 
@@ -72,7 +73,7 @@ class_case : (t : Bool) {u : VideoTarget} → Some (vram_target t) ≡ Some u �
 class_case true e = cc
 class_case false e = cc
 
-pub within_fills : (mode i : ℕ) {m : ℕ} {x : Option VideoTarget} {t : VideoTarget} → m ≡ mode → x ≡ vram_class i m → x ≡ Some t
+within_fills : (mode i : ℕ) {m : ℕ} {x : Option VideoTarget} {t : VideoTarget} → m ≡ mode → x ≡ vram_class i m → x ≡ Some t
     → fills_halfword t ≡ fills mode VideoRam i
 unfolding vram_class
 within_fills mode i {m} {x} {t} p e f =
@@ -86,7 +87,7 @@ unfolding obj_vram_base
 base_within mode = either (λ (n : ℕ). n ≤ vram_size) (leb mode 2) (lit≤ tt) (lit≤ tt)
 
 -- past its 96 KiB nothing is filled
-pub outside_drops : (mode i : ℕ) {m : ℕ} {x : Option VideoTarget} → m ≡ mode
+outside_drops : (mode i : ℕ) {m : ℕ} {x : Option VideoTarget} → m ≡ mode
     → x ≡ vram_class i m → x ≡ None → false ≡ fills mode VideoRam i
 unfolding vram_class is_obj_vram
 outside_drops mode i {m} {x} p e f =
@@ -94,6 +95,11 @@ outside_drops mode i {m} {x} p e f =
     (λ h g. let z : ◌≡◌ {A = ℕ} 0 1 = cc in absurd (omega arith))
     (λ h g. sym (ap not (le-leb (obj_vram_base mode) i (omega (arith, base_within mode, ltb-false i vram_size h)))))
     (ap (vram_class i) (sym p) ∙ sym e ∙ f)
+
+pub unwrapped_fills : (mode i : ℕ) {m : ℕ} {x : Option VideoTarget} → m ≡ mode → x ≡ vram_class i m
+    → fills_halfword (unwrap_or x ObjVram) ≡ fills mode VideoRam i
+unwrapped_fills mode i {x = Some t} p e = within_fills mode i p e refl
+unwrapped_fills mode i {x = None} p e = outside_drops mode i p e refl
 
 -- ---- the bytes of each size
 

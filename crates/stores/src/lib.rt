@@ -20,17 +20,6 @@ use parts::{Stored, byte_in, put, put_half, put_word};
 use video::{VideoTarget, VideoWriteAction};
 use waits::size_bytes;
 
-// A counter stops at its greatest number.
-pub fn saturating_add(a: u64, b: u64) -> u64
-    ensures { result ≡ def.counted a b }
-{
-    if b <= 0xFFFF_FFFF_FFFF_FFFF - a {
-        a + b
-    } else {
-        0xFFFF_FFFF_FFFF_FFFF
-    }
-}
-
 // The display mode.
 #[tactic(auto, unfolding(model::specs::Store::mode_of))]
 fn dispcnt_bg_mode(store: &[u8], lengths: Lengths) -> u8
@@ -40,17 +29,14 @@ fn dispcnt_bg_mode(store: &[u8], lengths: Lengths) -> u8
     byte_in(store, parts::io(lengths), 0) % 8
 }
 
-// What stands at a place of VRAM, by the display mode of this moment.
+// What stands at a place of VRAM, by the display mode of this moment; past its end a byte is dropped, as in object VRAM.
 #[tactic(auto, unfolding(model::specs::Video::is_obj_vram, model::specs::Video::obj_vram_base, video::specs::Actions::vram_class))]
 fn vram_target(index: usize, store: &[u8], lengths: Lengths) -> VideoTarget
     requires { (lengths_sum lengths ≡ length store.now) × (index < 2 ^ 32) }
     ensures { fills_halfword result ≡ fills (def.mode_of lengths store.now) VideoRam index }
 {
     let mode = dispcnt_bg_mode(store, lengths);
-    let Some(target) = video::classify_vram_offset(index as u32, mode) else {
-        return VideoTarget::ObjVram;
-    };
-    target
+    video::classify_vram_offset(index as u32, mode).unwrap_or(VideoTarget::ObjVram)
 }
 
 // What video.rs calls a memory.
@@ -86,9 +72,7 @@ fn write8_video(
     requires { part.base + part.size ≤ length store.old }
     ensures { Filled (fills_halfword target) part index value store.old store.new result }
 {
-    let action = video::resolve_strb(target, value);
-    match action {
-        VideoWriteAction::Store => dropped(),
+    match video::resolve_strb(target, value) {
         VideoWriteAction::ExpandByteToHalfword { halfword } => {
             let filled = put_half(store, part, index, halfword as u32);
             Stored {
@@ -96,8 +80,7 @@ fn write8_video(
                 halfwords: 1,
             }
         }
-        VideoWriteAction::Ignore => dropped(),
-        VideoWriteAction::Reject => dropped(),
+        VideoWriteAction::Store | VideoWriteAction::Ignore | VideoWriteAction::Reject => dropped(),
     }
 }
 
@@ -159,9 +142,7 @@ pub fn write(
     ensures { StoredAt size addr value target lengths store.old store.new result }
 {
     match target {
-        Target::Unused => dropped(),
-        Target::SystemRom => dropped(),
-        Target::GamePakRom => dropped(),
+        Target::Unused | Target::SystemRom | Target::GamePakRom => dropped(),
         Target::Plain(part, index) => write_plain(size, part, index, value, store),
         Target::Video(memory, part, index) => {
             write_video(size, memory, part, index, value, store, lengths)
@@ -177,9 +158,7 @@ pub fn write_word(target: Target, addr: u32, value: u32, store: &mut [u8]) -> St
     ensures { StoredWord addr value target store.old store.new result }
 {
     match target {
-        Target::Unused => dropped(),
-        Target::SystemRom => dropped(),
-        Target::GamePakRom => dropped(),
+        Target::Unused | Target::SystemRom | Target::GamePakRom => dropped(),
         Target::Plain(part, index) => put_word(store, part, index, value),
         Target::Video(_memory, part, index) => {
             let word = put_word(store, part, index, value);

@@ -135,7 +135,7 @@ pub fn price_insn(input: TimingInput, waits: [[u8; 2]; 3], prefetch: PrefetchBuf
         had_internal_cycles: had_i,
         pc_changed: input.pc_changed,
     });
-    let internal = had_i as u32;
+    let internal = u32::from(had_i);
     InsnCycles {
         total: fetch.cycles + internal,
         internal,
@@ -173,8 +173,7 @@ fn rom_cost(
     let kind = rom_kind_after(previous, addr);
     let first = waits::rom_half_cycles_at(waits, addr, window, kind);
     match size {
-        AccessSize::Byte => first,
-        AccessSize::Half => first,
+        AccessSize::Byte | AccessSize::Half => first,
         AccessSize::Word => first + waits::rom_half_cycles(waits, window, AccessKind::Seq),
     }
 }
@@ -194,18 +193,17 @@ pub fn data_cycles(
         (data_beats_in sram_waits size (kind_at addr (kind_after previous addr)) region) }
 {
     match region {
-        Region::Bios => waits::fixed_fast_cycles(),
-        Region::UnusedLow => waits::fixed_fast_cycles(),
+        Region::Bios
+        | Region::UnusedLow
+        | Region::Iwram
+        | Region::Io
+        | Region::Oam
+        | Region::UnusedHigh => waits::fixed_fast_cycles(),
         Region::Ewram => waits::ewram_cycles(size),
-        Region::Iwram => waits::fixed_fast_cycles(),
-        Region::Io => waits::fixed_fast_cycles(),
-        Region::Palette => waits::video_ram_cycles(size),
-        Region::Vram => waits::video_ram_cycles(size),
-        Region::Oam => waits::fixed_fast_cycles(),
+        Region::Palette | Region::Vram => waits::video_ram_cycles(size),
         Region::GamePakRomWs0 => rom_cost(waits, RomWindow::Ws0, size, addr, previous),
         Region::GamePakRomWs1 => rom_cost(waits, RomWindow::Ws1, size, addr, previous),
         Region::GamePakRomWs2 => rom_cost(waits, RomWindow::Ws2, size, addr, previous),
         Region::GamePakSram => waits::sram_byte_cycles(sram_waits),
-        Region::UnusedHigh => waits::fixed_fast_cycles(),
     }
 }

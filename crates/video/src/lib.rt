@@ -68,11 +68,7 @@ pub fn classify_vram_offset(offset: u32, dispcnt_bg_mode: u8) -> Option<VideoTar
 pub fn write_size_ok(_target: VideoTarget, size: AccessSize) -> bool
     ensures { result ≡ actions.is_wide size }
 {
-    match size {
-        AccessSize::Byte => false,
-        AccessSize::Half => true,
-        AccessSize::Word => true,
-    }
+    matches!(size, AccessSize::Half | AccessSize::Word)
 }
 
 // A store of 16 or 32 bits.
@@ -91,14 +87,10 @@ pub fn resolve_strb(target: VideoTarget, data: u8) -> VideoWriteAction
     ensures { result ≡ actions.byte_action target «data» }
 {
     match target {
-        VideoTarget::Palette => VideoWriteAction::ExpandByteToHalfword {
+        VideoTarget::Palette | VideoTarget::BgVram => VideoWriteAction::ExpandByteToHalfword {
             halfword: expand_strb_byte(data),
         },
-        VideoTarget::Oam => VideoWriteAction::Ignore,
-        VideoTarget::BgVram => VideoWriteAction::ExpandByteToHalfword {
-            halfword: expand_strb_byte(data),
-        },
-        VideoTarget::ObjVram => VideoWriteAction::Ignore,
+        VideoTarget::Oam | VideoTarget::ObjVram => VideoWriteAction::Ignore,
     }
 }
 
@@ -109,7 +101,6 @@ pub fn resolve_video_write(target: VideoTarget, size: AccessSize, data_lsb: u8) 
 {
     match size {
         AccessSize::Byte => resolve_strb(target, data_lsb),
-        AccessSize::Half => resolve_wide_write(target, size),
-        AccessSize::Word => resolve_wide_write(target, size),
+        AccessSize::Half | AccessSize::Word => resolve_wide_write(target, size),
     }
 }

@@ -100,13 +100,11 @@ pub fn size_bytes(size: AccessSize) -> u32
 pub fn access_size(bytes: u32) -> AccessSize
     ensures { result ≡ def.access_size_of bytes }
 {
-    if bytes == 1 {
-        return AccessSize::Byte;
+    match bytes {
+        1 => AccessSize::Byte,
+        2 => AccessSize::Half,
+        _ => AccessSize::Word,
     }
-    if bytes == 2 {
-        return AccessSize::Half;
-    }
-    AccessSize::Word
 }
 
 // The power of two that a size has.
@@ -261,8 +259,7 @@ pub fn ewram_cycles(size: AccessSize) -> u32
 {
     let beat = 1 + EWRAM_DEFAULT_WAITS as u32;
     match size {
-        AccessSize::Byte => beat,
-        AccessSize::Half => beat,
+        AccessSize::Byte | AccessSize::Half => beat,
         AccessSize::Word => beat * 2,
     }
 }
@@ -279,8 +276,7 @@ pub fn video_ram_cycles(size: AccessSize) -> u32
     ensures { result ≡ def.video_ram_cycles size }
 {
     match size {
-        AccessSize::Byte => 1,
-        AccessSize::Half => 1,
+        AccessSize::Byte | AccessSize::Half => 1,
         AccessSize::Word => 2,
     }
 }
