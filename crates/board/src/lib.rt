@@ -159,9 +159,7 @@ pub fn is_sound(board: &[u8]) -> bool
         return false;
     }
     let clock = load_clock(board);
-    sound_bytes(board)
-        & sound_prefetch(clock.prefetch)
-        & sound_previous(clock.previous)
+    sound_bytes(board) & sound_prefetch(clock.prefetch) & sound_previous(clock.previous)
 }
 
 // ---- writing

@@ -14,8 +14,8 @@ ghost use Rattle.timing.specs.Fetch.{PlainPrice, fetch_price};
 
 use disable_bug::DisableBugInput;
 use model::{
-    AccessKind, AccessSize, InsnCycles, IsaState, PrefetchBuffer, Previous, Region, RomWindow, TimingInput,
-    Version,
+    AccessKind, AccessSize, InsnCycles, IsaState, PrefetchBuffer, Previous, Region, RomWindow,
+    TimingInput, Version,
 };
 
 pub mod disable_bug;
