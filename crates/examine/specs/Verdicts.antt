@@ -97,7 +97,7 @@ unfolding sizes_fit
 long_enough l store bios rom n e h =
     ap (λ (k : ℕ). eqb k store) h ∙ sym (ap (λ (t : Bool). t && eqb (lengths_sum l) store) (not-false (sizes_small l bios rom) e))
 
--- ---- an accepted sheet, and a refusal's index
+-- ---- an accepted sheet
 
 pub record Ready (i : Lent) : Type 0 where
   pub board : length i.board ≡ board_length

@@ -22,26 +22,23 @@ use records::sheet;
 fn lengths_fit(lengths: Lengths, store: usize, bios: usize, rom: usize) -> bool
     ensures { result ≡ def.sizes_fit lengths store bios rom }
 {
-    let sizes = (bios <= region::BIOS_SIZE)
-        & (rom <= region::ROM_WINDOW_SIZE)
-        & (lengths.ewram <= region::EWRAM_SIZE)
-        & (lengths.iwram <= region::IWRAM_SIZE)
-        & (lengths.io <= region::IO_SIZE)
-        & (lengths.palette <= region::PALETTE_SIZE)
-        & (lengths.vram <= region::VRAM_SIZE)
-        & (lengths.oam <= region::OAM_SIZE)
-        & (lengths.sram <= region::SRAM_WINDOW_SIZE);
-    if !sizes {
-        return false;
-    }
-    lengths.ewram
-        + lengths.iwram
-        + lengths.io
-        + lengths.palette
-        + lengths.vram
-        + lengths.oam
-        + lengths.sram
-        == store
+    bios <= region::BIOS_SIZE
+        && rom <= region::ROM_WINDOW_SIZE
+        && lengths.ewram <= region::EWRAM_SIZE
+        && lengths.iwram <= region::IWRAM_SIZE
+        && lengths.io <= region::IO_SIZE
+        && lengths.palette <= region::PALETTE_SIZE
+        && lengths.vram <= region::VRAM_SIZE
+        && lengths.oam <= region::OAM_SIZE
+        && lengths.sram <= region::SRAM_WINDOW_SIZE
+        && lengths.ewram
+            + lengths.iwram
+            + lengths.io
+            + lengths.palette
+            + lengths.vram
+            + lengths.oam
+            + lengths.sram
+            == store
 }
 
 // ---- the rows of the table, in parts: what another operation examines is another choice of these
@@ -54,7 +51,7 @@ pub fn examine_sheet(sheet: &[u8]) -> Result<(), Refusal>
         return Err(Refusal::BadMark);
     }
     let version = sheet::version_of(sheet);
-    if (version < FIRST_VERSION) | (version > LATEST_VERSION) {
+    if version < FIRST_VERSION || version > LATEST_VERSION {
         return Err(Refusal::BadVersion);
     }
     if !sheet::is_shaped(sheet) {
@@ -125,7 +122,7 @@ pub fn examine_records(sheet: &[u8]) -> Result<(), Refusal>
 pub fn examine_rate(rate: u32) -> Result<(), Refusal>
     ensures { result ≡ def.first_row (tariff.rate_rows rate) }
 {
-    if (rate == 0) | (rate > MAX_RATE) {
+    if rate == 0 || rate > MAX_RATE {
         return Err(Refusal::BadRate);
     }
     Ok(())
