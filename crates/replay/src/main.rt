@@ -471,7 +471,7 @@ fn replay_all<P: Print, R: Read>(rt: &P, input: &mut R, count: u32) -> u32 {
             tell(rt, case, "bad sample");
             return agree;
         }
-        agree += le::bit(found.same) as u32;
+        agree += found.same as u32;
         case += 1;
     }
     agree
