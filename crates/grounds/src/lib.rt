@@ -94,7 +94,8 @@ struct Trail {
     next: u64,
 }
 
-// No data access goes on there.
+// No data access goes on there. A number past every address and no `Option`, which the compiler holds as two: with one, telling
+// grounds took 1.45 of a run on IDLE 1 in place of 1.26.
 const NOWHERE: u64 = 0x1_0000_0000;
 
 // The trail that a clock begins.
