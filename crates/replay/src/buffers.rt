@@ -1,5 +1,6 @@
 // What a case lends to the library: each buffer is as long as the head says.
-ghost use Rattle.std.specs.Prelude.{◌≡◌};
+ghost use Rattle.std.specs.Prelude.{◌≡◌, IfOk};
+ghost use Rattle.replay.specs.Buffers.{IsSetUp};
 
 use crate::head::{Head, Operation};
 use crate::pattern;
@@ -36,7 +37,9 @@ fn uncharged(report: Report) -> Bill
 
 impl Buffers {
     // Reads the sheet and the board, and makes the rest.
-    pub fn read<R: Read>(alloc: Global, input: &mut R, head: Head) -> Result<Buffers, BadSample> {
+    pub fn read<R: Read>(alloc: Global, input: &mut R, head: Head) -> Result<Buffers, BadSample>
+        ensures { IfOk result (IsSetUp head) }
+    {
         let n = head.buffers;
         let seed = head.asked.seed;
         Ok(Buffers {

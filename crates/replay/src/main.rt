@@ -25,6 +25,8 @@ mod head;
 mod pattern;
 mod sample;
 
+ghost use Rattle.std.specs.Prelude.{◌≤◌};
+
 use buffers::Buffers;
 use compare::Case;
 use head::Head;
@@ -47,7 +49,9 @@ fn replay_case<P: Print + AllocGlobal, R: Read>(
 }
 
 // Replays cases until all are done or one is cut off or too long, and answers how many agree.
-fn replay_all<P: Print + AllocGlobal, R: Read>(rt: &P, input: &mut R, count: u32) -> u32 {
+fn replay_all<P: Print + AllocGlobal, R: Read>(rt: &P, input: &mut R, count: u32) -> u32
+    ensures { result ≤ count }
+{
     let mut agree: u32 = 0;
     for case in 0..count {
         match replay_case(rt, input, case) {

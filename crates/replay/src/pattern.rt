@@ -1,7 +1,7 @@
 // What the store, the BIOS, the ROM, the answers and the second buffer, that of the shares or of the grounds, hold before a run.
 // It follows from the case's seed, so the sample need not have these bytes.
 ghost use Rattle.std.specs.Prelude.{◌≡◌, ◌↔◌, ℕ, ◌<◌, length, get_or, IsTrue, IfOk};
-ghost use Rattle.replay.specs.Pattern.{pattern_byte, tag_of};
+ghost use Rattle.replay.specs.Pattern.{pattern_byte, tag_of, IsFilled};
 
 use std::alloc::{AllocError, Global};
 
@@ -34,9 +34,7 @@ fn fill(out: &mut [u8], seed: u32, buffer: Buffer)
 
 // A buffer of this length as it is before the run.
 pub fn filled(alloc: Global, n: usize, seed: u32, buffer: Buffer) -> Result<Vec<u8>, AllocError>
-    ensures len { IfOk result (λ v. length v.items ≡ n) }
-    ensures bytes { IfOk result
-        (λ v. (k : ℕ) → k < n → get_or v.items k 0 ≡ pattern_byte seed (tag_of buffer) k) }
+    ensures { IfOk result (λ v. IsFilled v.items n seed buffer) }
 {
     let mut bytes = vec![in alloc; 0; n]?;
     fill(&mut bytes, seed, buffer);
