@@ -6,6 +6,7 @@ use Rattle.std.specs.Prelude.{◌&&◌, not}
 use Rattle.model.specs.BoardBytes as def
 use Rattle.board.proofs.is_zero.Goals as goal
 
+-- the derived equality goes over all fields in their order, the definition over all but the switch in its own
 in_order : (h n x w a e f b : Bool)
     → (h && (n && (x && (w && (a && (beq e e && (beq f false && beq b false))))))) ≡ (h && n && not f && not b && w && x && a)
 in_order h n x w a e f b = grind (arith, common_steps)
@@ -16,4 +17,5 @@ returns c =
     let p = c.args.p in
     c.eq.ensures
     ∙ rw (c.new.ensures)
-    (in_order (eqb p.head 0) (eqb p.count 0) (eqb p.next_addr 0) (eqb p.wait_left 0) (eqb p.head_addr 0) p.enabled p.filling p.first_beat)
+    (in_order (eqb p.head 0) (eqb p.count 0) (eqb p.next_addr 0) (eqb p.wait_left 0) (eqb p.head_addr 0) p.enabled p.filling
+    p.first_beat)

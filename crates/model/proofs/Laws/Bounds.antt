@@ -147,7 +147,8 @@ fetch_beats_in_law p a k Arm (Some win) =
     (half_regular p a win k) (half_regular p (further 2 a) win Seq)
 fetch_beats_in_law p a k isa None = one_beat (plain_beat a isa) (plain_regular a isa)
 
-pub fetch_between : (t : Waits) → SmallWaits t → (p : PrefetchBuffer) (a : ℕ) (k : AccessKind) (isa : IsaState) (v : Option RomWindow)
+pub fetch_between : (t : Waits) → SmallWaits t → (p : PrefetchBuffer) (a : ℕ) (k : AccessKind) (isa : IsaState)
+    (v : Option RomWindow)
     → Between 1 18 (price t (fetch_beats_in p a k isa v))
 fetch_between t small p a k isa v = price_between t small (fetch_beats_in p a k isa v) (fetch_beats_in_law p a k isa v)
 

@@ -175,7 +175,8 @@ block_test p a (suc n) j g =
     choose (λ (t : Bool). is_beat (beat_at (word ++ rest) j) g ≡ t) (ltb j beats)
     (λ e. ap (λ (b : Option Ground). is_beat b g) (beat_first word rest j (omega (arith, tests, many))) ∙ data_test p Word a j g)
     (λ e.
-    ap (λ (b : Option Ground). is_beat b g) (beat_behind word rest j (j - beats) (omega (arith, tests, many)) (omega (arith, many)))
+    ap (λ (b : Option Ground). is_beat b g)
+    (beat_behind word rest j (j - beats) (omega (arith, tests, many)) (omega (arith, many)))
     ∙ block_test (access_of Word a) (further 4 a) n (j - beats) g)
 
 fetch_test : (hits : ℕ → Bool) (forced : Bool) (isa : IsaState) (a j : ℕ) (g : Ground) (v : Option RomWindow)
@@ -257,7 +258,8 @@ bus_worth w z k g first OnEwram =
 bus_worth w z k g first OnVideo =
     wide_worth (rom_waits_of w) (ground_cycles w None Half) z VideoBeat VideoBeat VideoBus VideoBus refl refl
 bus_worth w z k g first (OnRom win) =
-    wide_worth (rom_waits_of w) (ground_cycles w (Some win) Half) z (RomBeat win k) (RomBeat win Seq) g Sequential (first win) refl
+    wide_worth (rom_waits_of w) (ground_cycles w (Some win) Half) z (RomBeat win k) (RomBeat win Seq) g Sequential
+    (first win) refl
 bus_worth w z k g first OnSram = refl
 bus_worth w z k g first OnFast = refl
 
@@ -298,7 +300,8 @@ block_worth w p a (suc n) =
 -- ---- a fetch
 
 flag_worth : (w : ℕ) (z : AccessSize) (win : RomWindow) (forced : Bool)
-    → rom_half_cycles (rom_waits_of w) win (nonseq_if forced) ≡ ground_cycles w (Some win) z (if forced then ByFlag else Sequential)
+    → rom_half_cycles (rom_waits_of w) win (nonseq_if forced)
+    ≡ ground_cycles w (Some win) z (if forced then ByFlag else Sequential)
 flag_worth w z win true = refl
 flag_worth w z win false = refl
 

@@ -112,7 +112,8 @@ restart_outside t p a e =
     ∙ either (λ (q : PrefetchBuffer). q ≡ drained p) p.enabled refl refl
 
 pub two_nonseq_beats : (t : Waits) (p : PrefetchBuffer) (a : ℕ) (first second : RomWindow)
-    → p.enabled ≡ true → window a ≡ Some first → window (further 2 (lowered 2 a)) ≡ Some second → TwoNonseqBeats t p a first second
+    → p.enabled ≡ true → window a ≡ Some first → window (further 2 (lowered 2 a)) ≡ Some second
+    → TwoNonseqBeats t p a first second
 unfolding ended start_beat arrived
 two_nonseq_beats t p a first second on e f =
     record {

@@ -56,7 +56,8 @@ emptied_sound on =
     }
 
 module _ (t : Waits) (small : SmallWaits t) where
-  restart_in_sound : (p : PrefetchBuffer) (a : ℕ) (v : Option RomWindow) → p.enabled ≡ true → window a ≡ v → Sound (restart_in t p a v)
+  restart_in_sound : (p : PrefetchBuffer) (a : ℕ) (v : Option RomWindow) → p.enabled ≡ true → window a ≡ v
+      → Sound (restart_in t p a v)
   unfolding rom_half_cycles
   restart_in_sound p a None on e = emptied_sound p.enabled
   restart_in_sound p a (Some win) on e =
@@ -252,7 +253,8 @@ module _ (t : Waits) (small : SmallWaits t) where
       (fetched_sound (fetched p a) (further 2 a) (fetched_sound p a s))
       (restart_sound t small (fetched (fetched p a) (further 2 a)) (further 4 a))
 
-  fetched_in_sound : (p : PrefetchBuffer) (a : ℕ) (isa : IsaState) (v : Option RomWindow) → Sound p → Sound (fetched_in t p a isa v)
+  fetched_in_sound : (p : PrefetchBuffer) (a : ℕ) (isa : IsaState) (v : Option RomWindow) → Sound p
+      → Sound (fetched_in t p a isa v)
   fetched_in_sound p a isa (Some win) s = rom_fetched_sound p a isa s
   fetched_in_sound p a isa None s = s
 

@@ -93,7 +93,8 @@ rom_fetched_switch t p a Arm =
     twice : Keeps p (fetched (fetched p a) (further 2 a))
     twice = fetched_switch (fetched p a) (further 2 a) ∙ fetched_switch p a
 
-fetched_in_switch : (t : Waits) (p : PrefetchBuffer) (a : ℕ) (isa : IsaState) (v : Option RomWindow) → Keeps p (fetched_in t p a isa v)
+fetched_in_switch : (t : Waits) (p : PrefetchBuffer) (a : ℕ) (isa : IsaState) (v : Option RomWindow)
+    → Keeps p (fetched_in t p a isa v)
 fetched_in_switch t p a isa (Some win) = rom_fetched_switch t p a isa
 fetched_in_switch t p a isa None = refl
 
