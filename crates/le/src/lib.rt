@@ -34,7 +34,8 @@ pub fn word_at(s: &[u8], at: usize) -> u32
     half_at(s, at) as u32 + 0x1_0000 * half_at(s, at + 2) as u32
 }
 
-// ---- read where the bytes stand. The compiler makes one load of the bytes; by a chunk of the slice it would test its length anew
+// ---- read where the bytes stand: each byte by its place, of which the compiler makes one load. By `first_chunk` it would test
+// the length anew
 
 pub fn read16(s: &[u8], at: usize) -> u16
     requires { at + 2 ≤ length s.now }

@@ -175,9 +175,9 @@ fn last_kind(version: Version) -> u8
     }
 }
 
-// The least faulty of n records, in one pass; n where there is none. A record is held against the row of its kind; the flag and the zero byte behind it are one number. The kind is
-// not branched on: kinds follow each other in no order, so that a branch would often be guessed wrong. The table is put in place
-// once, not for each record.
+// The least faulty of n records, in one pass; n where there is none. A record is held against the row of its kind; the flag and
+// the zero byte behind it are one number. The kind is not branched on: kinds follow each other in no order, so that a branch
+// would often be guessed wrong. The table is put in place once, not for each record.
 #[tactic(auto, unfolding(model::specs::Sheet::records_from, model::specs::Sheet::first_of))]
 pub fn least_faulty(sheet: &[u8], n: usize) -> usize
     requires { def.header_length + def.record_length * n ≤ length sheet.now }
