@@ -8,7 +8,10 @@ use Rattle.model.specs.Memory.{lengths_sum}
 use Rattle.model.specs.Sheet.{latest_version, knows, is_marked, version_of, is_shaped, max_records, record_start, record_count, records_from, least_faulty}
 use Rattle.model.specs.BoardBytes.{board_length, answer_length, clock_of}
 use Rattle.model.specs.Outcome.{Lent, Row, row, by_row, first_row, sheet_rows, answers_rows}
-use Rattle.model.specs.Outcome.{room_rows, fault_index, records_rows, sizes_fit, verdict}
+use Rattle.model.specs.Outcome.{room_rows, fault_index, records_rows, sizes_fit, verdict, refusal_index, outcome_by, outcome}
+use Rattle.model.specs.Tariff.{Tariffed, tariff_verdict, bill}
+use Rattle.model.specs.Grounds.{Explaining, grounds_verdict, explain}
+use Rattle.model.specs.Preview.{Asked, preview_verdict, preview_by, preview}
 use Rattle.model.specs.Laws.Places.{sizes_small, Sized}
 use Rattle.model.proofs.Laws.Places.{small_sized}
 use Rattle.model.proofs.Laws.Choice.{by_test, eqb_ne, parts, or_true_right, or-false}
@@ -17,7 +20,11 @@ use Rattle.model.proofs.Laws.Codec.{sound_formed}
 use Rattle.model.specs.Laws.Rows.{TableOf, or_else_of}
 use Rattle.model.proofs.Laws.Rows.{row_holds, row_passes, first_append, accepts_none}
 use Rattle.model.specs.Laws.Refusal.{NoFault, Acceptable, Index}
+use Rattle.model.proofs.Laws.Refusal as refusal
 use Rattle.model.proofs.Laws.Refusal.{accepted_acceptable}
+use Rattle.model.proofs.Laws.Billed as billed
+use Rattle.model.proofs.Laws.Explained as explained
+use Rattle.model.proofs.Laws.Previewed as previewed
 use Rattle.model.proofs.Laws.Fits.{sound_clock}
 use Rattle.model.specs.declared.Lengths.{Lengths}
 use Rattle.model.specs.declared.Refusal.{Refusal}
@@ -159,3 +166,27 @@ module _ (s : List ℕ) {more : List Row} {number : ℕ} (t : TableOf (sheet_row
       let k = told_shaped (λ h. omega (arith, z, h)) (λ h. omega (arith, z, h)) (λ h. omega (arith, z, h)) in
       omega (arith, (x.faulty_record z).within, k.few))
       (λ f. omega (arith, x.refused (eqb_ne number 0 e) (eqb_ne number 7 f))))
+
+-- and so that of a refusal, whichever operation makes it
+pub index_small : (i : Lent) (r : Refusal) → verdict i ≡ Refused r → refusal_index r ≤ max_records
+unfolding outcome
+index_small i r e =
+    rw (ap (λ (v : Verdict). (outcome_by i v).index) e) at (few_index i.sheet (refusal.run_table i) (refusal.index i))
+
+pub tariff_index_small : (t : Tariffed) (r : Refusal) → tariff_verdict t ≡ Refused r → refusal_index r ≤ max_records
+unfolding bill
+tariff_index_small t r e =
+    rw (ap (λ (v : Verdict). (outcome_by t.run v).index) e)
+    at (few_index t.run.sheet (billed.tariff_table t) (billed.tariff_index t))
+
+pub grounds_index_small : (e : Explaining) (r : Refusal) → grounds_verdict e ≡ Refused r → refusal_index r ≤ max_records
+unfolding explain
+grounds_index_small e r v =
+    rw (ap (λ (u : Verdict). (outcome_by e.run u).index) v)
+    at (few_index e.run.sheet (explained.grounds_table e) (explained.grounds_index e))
+
+pub preview_index_small : (q : Asked) (r : Refusal) → preview_verdict q ≡ Refused r → refusal_index r ≤ max_records
+unfolding preview
+preview_index_small q r e =
+    rw (ap (λ (v : Verdict). (preview_by q v).index) e)
+    at (few_index q.sheet (previewed.preview_table q) (previewed.preview_index q))
