@@ -1,5 +1,5 @@
--- The verdict on what is lent: accepted, or why it is refused. It is std's `Result<(), Refusal>`; its two variants have the words of
--- the documents here.
+-- The verdict on what is lent: accepted, or why it is refused. It is std's `Result<(), Refusal>`, whose two variants have the
+-- documents' words here.
 use Rattle.std.specs.Prelude.{Result, Ok, Err, ⊤}
 use Rattle.model.specs.declared.Refusal.{Refusal}
 
