@@ -8,8 +8,7 @@ ghost use Rattle.std.specs.Prelude.{◌≤◌, length, IfOk};
 
 use grounds::names::{beat_ground, ground_name};
 use model::{
-    ANSWER_LENGTH, GROUNDS_LENGTH, Ground, HEADER_LENGTH, Lengths, MAX_RECORDS,
-    RECORD_LENGTH,
+    ANSWER_LENGTH, GROUNDS_LENGTH, Ground, HEADER_LENGTH, Lengths, MAX_RECORDS, RECORD_LENGTH,
 };
 use std::io;
 use std::io::Read;
