@@ -1,6 +1,6 @@
 // The bus's loads of 1, 2 and 4 bytes over the lent memories. Port of the loads of src/bus/mod.rs (`Bus as CpuMem`). BIOS and ROM
-// are slices of their own; the other memories are parts of one store, with their lengths beside it. A load goes on from the memory
-// that its address meets, which the caller has decoded.
+// are slices of their own; the other memories are parts of one store, with their lengths beside it. A load goes on from the
+// memory that its address meets, which the caller has decoded.
 #![tactic(auto)]
 
 ghost use Rattle.std.specs.Prelude.{◌≡◌, ◌+◌, ◌-◌, ◌%◌, ◌^◌, ◌<◌, ◌≤◌, length};

@@ -16,6 +16,7 @@ use Rattle.model.specs.declared.Contents.{Contents}
 use Rattle.model.specs.declared.Lengths.{Lengths}
 use Rattle.model.specs.declared.Step.{Step}
 use Rattle.model.specs.declared.Step.TheVariants.{Read, Write}
+use Rattle.loads.specs.Bus.{bus, Parted, parted}
 use Rattle.step.specs.declared.Begun.{Begun}
 use Rattle.step.specs.declared.Stepped.{Stepped}
 
@@ -23,6 +24,10 @@ use Rattle.step.specs.declared.Stepped.{Stepped}
 
 abbrev pub media_from : List ℕ → List ℕ → Lengths → Media
 media_from bios rom l = record { bios = bios; rom = rom; lengths = l }
+
+-- what the loads of a step see
+abbrev pub seen : Media → Contents → List ℕ → Parted
+seen m d store = parted (bus d.cpu_pc d.last_bios_opcode m.bios m.rom store) m.lengths
 
 -- for steps that read no memory
 abbrev pub no_lengths : Lengths

@@ -41,7 +41,8 @@ module _ (m : Media) (s : State) (x : Step) (t : Waits)
 
   -- the tick is over the ROM that is lent
   module _ (p : PrefetchBuffer) (h : List ℕ) {rom : List ℕ} (lent : rom ≡ m.rom)
-      (ticked-over : Ticked t rom b.idle b.clock.prefetch s.board.halves p h) (after : Clock) (clocked : after ≡ with_prefetch b.clock p) where
+      (ticked-over : Ticked t rom b.idle b.clock.prefetch s.board.halves p h)
+      (after : Clock) (clocked : after ≡ with_prefetch b.clock p) where
     ticked : Ticked t m.rom b.idle b.clock.prefetch s.board.halves p h
     ticked = rw lent at ticked-over
 

@@ -18,7 +18,6 @@ ghost use Rattle.model.specs.Sheet.{max_words};
 ghost use Rattle.model.specs.Laws.Previous.{SoundPrevious};
 ghost use Rattle.step.specs.Block.{Loadable, Clears};
 ghost use Rattle.step.specs.Fetch.{fetch_of, code_fetch};
-ghost use Rattle.loads.specs.Bus as loads;
 ghost use Rattle.model.specs.Memory.{lengths_sum};
 
 use loads::{Bus, Media};
@@ -89,7 +88,7 @@ fn accessed(clock: Clock, size: AccessSize, addr: u32) -> Clock
 // What the loads of a step see.
 fn bus<'a>(contents: Contents, store: &'a [u8], media: &'a Media<'a>) -> Bus<'a>
     requires { lengths_sum media.now.lengths ≡ length store.now }
-    ensures { result ≡ loads.parted (loads.bus contents.cpu_pc contents.last_bios_opcode media.now.bios media.now.rom store.now) media.now.lengths }
+    ensures { result ≡ def.seen media.now contents store.now }
 {
     Bus {
         pc: contents.cpu_pc,
