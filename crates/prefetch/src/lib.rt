@@ -246,26 +246,24 @@ pub fn hits(buffer: PrefetchBuffer, addr: u32) -> bool
 // The halfword at the head, if it is that of the address.
 #[tactic(auto, unfolding(crate::specs::Found::found))]
 pub fn peek_half(buffer: PrefetchBuffer, halves: &[u16; 8], addr: u32) -> Option<u16>
-    requires { buffer.head < 8 }
     ensures { result ≡ found halves.now buffer addr }
 {
     if !hits(buffer, addr) {
         return None;
     }
-    let head = buffer.head;
-    Some(halves[head])
+    Some(halves.get(buffer.head).copied().unwrap_or(0))
 }
 
 // The head's halfword is taken.
 #[tactic(auto, unfolding(model::specs::Prefetch::taken))]
 fn take(buffer: PrefetchBuffer) -> PrefetchBuffer
-    requires { (buffer.head < 8) × (1 ≤ buffer.count) }
+    requires { 1 ≤ buffer.count }
     ensures { result ≡ def.taken buffer }
 {
     let next = std::num::wrapping_add_u32(buffer.head_addr, 2);
     let head_addr = if buffer.count == 1 { 0 } else { next };
     PrefetchBuffer {
-        head: (buffer.head + 1) % PREFETCH_CAPACITY,
+        head: (buffer.head % PREFETCH_CAPACITY + 1) % PREFETCH_CAPACITY,
         count: buffer.count - 1,
         head_addr,
         ..buffer
@@ -275,7 +273,6 @@ fn take(buffer: PrefetchBuffer) -> PrefetchBuffer
 // The buffer after a fetch: its head is taken on a hit. A miss drains it, but not when it is off or empty.
 #[tactic(auto, unfolding(model::specs::Prefetch::fetched, model::specs::Prefetch::hit, model::specs::Prefetch::occupied))]
 pub fn after_fetch(buffer: PrefetchBuffer, addr: u32) -> PrefetchBuffer
-    requires { buffer.head < 8 }
     ensures { result ≡ def.fetched buffer addr }
 {
     if hits(buffer, addr) {
@@ -288,7 +285,6 @@ pub fn after_fetch(buffer: PrefetchBuffer, addr: u32) -> PrefetchBuffer
 // An opcode fetch from the buffer.
 #[tactic(auto, unfolding(model::specs::Prefetch::fetched, model::specs::Prefetch::hit, model::specs::Prefetch::occupied, model::specs::Prefetch::taken, crate::specs::Found::found))]
 pub fn try_fetch_half(buffer: PrefetchBuffer, halves: &[u16; 8], addr: u32) -> Fetched
-    requires { buffer.head < 8 }
     ensures { result ≡ fetched_half halves.now buffer addr }
 {
     let half = peek_half(buffer, halves, addr);

@@ -435,7 +435,6 @@ struct CodeFetch {
 // A restart drains, so that a half that misses need not be fetched first.
 #[tactic(auto, using(crate::proofs::Laws::fetch_laws))]
 fn fetch_thumb(buffer: PrefetchBuffer, addr: u32, waits: [[u8; 2]; 3]) -> CodeFetch
-    requires { buffer.head < 8 }
     ensures { result ≡ fetch_of waits buffer addr Thumb }
 {
     if prefetch::hits(buffer, addr) {
@@ -449,7 +448,6 @@ fn fetch_thumb(buffer: PrefetchBuffer, addr: u32, waits: [[u8; 2]; 3]) -> CodeFe
 // Where the first half misses, so does the second.
 #[tactic(auto, using(crate::proofs::Laws::fetch_laws))]
 fn fetch_arm(buffer: PrefetchBuffer, addr: u32, waits: [[u8; 2]; 3]) -> CodeFetch
-    requires { buffer.head < 8 }
     ensures { result ≡ fetch_of waits buffer addr Arm }
 {
     let next = std::num::wrapping_add_u32(addr, 2);
@@ -469,7 +467,6 @@ fn fetch_arm(buffer: PrefetchBuffer, addr: u32, waits: [[u8; 2]; 3]) -> CodeFetc
 
 // Code in a window goes through the buffer; code elsewhere leaves it alone.
 fn fetch_code(buffer: PrefetchBuffer, isa: IsaState, addr: u32, waits: [[u8; 2]; 3]) -> CodeFetch
-    requires { buffer.head < 8 }
     ensures { result ≡ code_fetch waits buffer addr isa }
 {
     let Some(_window) = waits::window_from_addr(addr) else {

@@ -2,12 +2,11 @@
 // price is document 01's addition. The state goes in by value; nothing here reads a memory.
 #![tactic(auto)]
 
-ghost use Rattle.std.specs.Prelude.{◌≡◌};
+ghost use Rattle.std.specs.Prelude.{◌≡◌, ◌≤◌};
 ghost use Rattle.model.specs.Region.{decode};
 ghost use Rattle.model.specs.Wait.{window as windowOf, kind_at};
 ghost use Rattle.model.specs.Price.{beat_cycles, price, kind_after, rom_access, data_beats_in};
 ghost use Rattle.model.specs.Timing as def;
-ghost use Rattle.model.specs.Laws.Bounds.{SmallWaits};
 ghost use Rattle.model.specs.Laws.Window.{InRom};
 ghost use Rattle.model.specs.Laws.Previous.{SoundPrevious};
 ghost use Rattle.timing.specs.Fetch.{PlainPrice, fetch_price};
@@ -48,7 +47,8 @@ fn price_rom_half(
     waits: [[u8; 2]; 3],
     prefetch: PrefetchBuffer,
 ) -> u32
-    ensures { result ≡ beat_cycles waits (def.half_beat prefetch addr window kind) }
+    ensures beat { result ≡ beat_cycles waits (def.half_beat prefetch addr window kind) }
+    ensures few { result ≤ 256 }
 {
     if prefetch::hits(prefetch, addr) {
         return prefetch::hit_cycles();
@@ -66,8 +66,8 @@ fn price_rom(
     waits: [[u8; 2]; 3],
     prefetch: PrefetchBuffer,
 ) -> u32
-    requires { SmallWaits waits }
-    ensures { result ≡ price waits (def.rom_beats prefetch addr window kind isa) }
+    ensures beats { result ≡ price waits (def.rom_beats prefetch addr window kind isa) }
+    ensures few { result ≤ 512 }
 {
     let first = price_rom_half(addr, window, kind, waits, prefetch);
     match isa {
@@ -82,7 +82,8 @@ fn price_rom(
 // An opcode from elsewhere: its beat costs the same under all waits.
 #[tactic(auto, unfolding(model::specs::Timing::plain_beat))]
 fn price_plain(addr: u32, isa: IsaState) -> u32
-    ensures { PlainPrice addr isa result }
+    ensures beat { PlainPrice addr isa result }
+    ensures few { result ≤ 512 }
 {
     if addr / 0x100_0000 != 0x02 {
         return waits::fixed_fast_cycles();
@@ -100,8 +101,8 @@ fn price_fetch(
     waits: [[u8; 2]; 3],
     prefetch: PrefetchBuffer,
 ) -> FetchPrice
-    requires { SmallWaits waits }
-    ensures { result ≡ fetch_price waits prefetch addr kind isa }
+    ensures price { result ≡ fetch_price waits prefetch addr kind isa }
+    ensures few { (result.cycles ≤ 512) × (result.cart_idle ≤ 512) }
 {
     let Some(window) = waits::window_from_addr(addr) else {
         let cycles = price_plain(addr, isa);
@@ -120,7 +121,6 @@ fn price_fetch(
 // The five results of pricing an instruction.
 #[tactic(auto, using(crate::proofs::Laws::bounds), unfolding(model::specs::Timing::price_insn, model::specs::Timing::fetch_beats, model::specs::Timing::cart_idle_of, model::specs::Timing::disable_bug))]
 pub fn price_insn(input: TimingInput, waits: [[u8; 2]; 3], prefetch: PrefetchBuffer) -> InsnCycles
-    requires { SmallWaits waits }
     ensures { result ≡ def.price_insn input waits prefetch }
 {
     let isa = input.isa;
@@ -166,7 +166,7 @@ fn rom_cost(
     addr: u32,
     previous: Previous,
 ) -> u32
-    requires { SmallWaits waits × (SoundPrevious previous × InRom addr) }
+    requires { SoundPrevious previous × InRom addr }
     ensures { result ≡ price waits
         (rom_access size (kind_at addr (kind_after previous addr)) window) }
 {
@@ -188,7 +188,7 @@ pub fn data_cycles(
     region: Region,
     previous: Previous,
 ) -> u32
-    requires { SmallWaits waits × (SoundPrevious previous × (region ≡ decode addr)) }
+    requires { SoundPrevious previous × (region ≡ decode addr) }
     ensures { result ≡ price waits
         (data_beats_in sram_waits size (kind_at addr (kind_after previous addr)) region) }
 {

@@ -3,7 +3,7 @@
 // waits never change.
 #![tactic(auto)]
 
-ghost use Rattle.std.specs.Prelude.{◌≡◌};
+ghost use Rattle.std.specs.Prelude.{◌≡◌, ◌≤◌};
 ghost use Rattle.model.specs.Waitcnt as reg;
 ghost use Rattle.model.specs.Wait as def;
 
@@ -213,7 +213,8 @@ pub fn rom_half_waits(waits: [[u8; 2]; 3], window: RomWindow, kind: AccessKind) 
 // One halfword from ROM.
 #[tactic(auto, unfolding(model::specs::Wait::rom_half_cycles))]
 pub fn rom_half_cycles(waits: [[u8; 2]; 3], window: RomWindow, kind: AccessKind) -> u32
-    ensures { result ≡ def.rom_half_cycles waits window kind }
+    ensures cycles { result ≡ def.rom_half_cycles waits window kind }
+    ensures few { result ≤ 256 }
 {
     cycles_for_waits(rom_half_waits(waits, window, kind))
 }
@@ -237,7 +238,8 @@ pub fn rom_half_cycles_at(
     window: RomWindow,
     kind: AccessKind,
 ) -> u32
-    ensures { result ≡ def.rom_half_cycles_at waits addr window kind }
+    ensures cycles { result ≡ def.rom_half_cycles_at waits addr window kind }
+    ensures few { result ≤ 256 }
 {
     if rom_force_nonseq(addr) {
         rom_half_cycles(waits, window, AccessKind::Nonseq)
