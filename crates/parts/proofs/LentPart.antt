@@ -11,7 +11,7 @@ use lib.ListN.{length, take, drop, set, get_or, take-append-drop, length-take, l
 use lib.Seq.{take-set-le, drop-set-lt, take-set-lt, drop-set-add, set_out, get_or-take, get_or-drop}
 use borrow.Author.Tests.{ltb-true, ltb-false}
 use Rattle.std.specs.Prelude.{map}
-use Rattle.std.proofs.Common.{length-append, append_assoc, append-nil, add_assoc}
+use Rattle.std.proofs.Common.{length-append, append_assoc, append-nil}
 use Rattle.std.proofs.lemmas.List.{map-append, length-map}
 use Rattle.model.specs.Base.{bit, lowered}
 use Rattle.model.specs.Memory.{byte_in, after}

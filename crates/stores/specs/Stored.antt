@@ -3,7 +3,7 @@ use Rattle.std.specs.Prelude.{◌≡◌, Bool, List, ℕ, length}
 use Rattle.model.specs.Memory.{lengths_sum}
 use Rattle.model.specs.Base.{bit}
 use Rattle.model.specs.Wait.{size_bytes_of}
-use Rattle.model.specs.Store.{mode_of, put_aligned, video_puts, puts_at, video_count}
+use Rattle.model.specs.Store.{mode_of, put_aligned, video_puts, puts_at, halfwords, video_count}
 use Rattle.model.specs.Laws.Places.{Lies}
 use Rattle.model.specs.declared.AccessSize.{AccessSize}
 use Rattle.model.specs.declared.AccessSize.TheVariants.{Byte, Word}
@@ -16,6 +16,10 @@ use Rattle.parts.specs.declared.Stored.{Stored}
 -- a byte store to video memory that fills its halfword, or doesn't
 abbrev pub Filled : Bool → Part → ℕ → ℕ → List ℕ → List ℕ → Stored → Type 0
 Filled fill p i v before after r = Stores (video_puts fill Byte p i v) (bit fill) before after r
+
+-- a store of any size to video memory, whose byte fills its halfword, or doesn't
+abbrev pub StoredVideo : Bool → AccessSize → Part → ℕ → ℕ → List ℕ → List ℕ → Stored → Type 0
+StoredVideo fill z p i v before after r = Stores (video_puts fill z p i v) (halfwords fill z) before after r
 
 -- a store to EWRAM, IWRAM or I/O: all its bytes, aligned
 abbrev pub StoredPlain : AccessSize → Part → ℕ → ℕ → List ℕ → List ℕ → Stored → Type 0
