@@ -23,7 +23,7 @@ use Rattle.model.proofs.Laws.Run.{landed_length}
 use Rattle.model.specs.declared.AccessSize.{AccessSize}
 use Rattle.model.specs.declared.AccessSize.TheVariants.{Byte, Half, Word}
 use Rattle.model.specs.declared.Part.{Part}
-use Rattle.parts.specs.Stored.{store_report, Stores, whole, then_stores, same_puts}
+use Rattle.parts.specs.Stored.{store_report, Stores, whole, bytes_of, then_stores, same_puts}
 use Rattle.parts.specs.declared.Stored.{Stored}
 
 -- a part behind one that is known
@@ -216,14 +216,31 @@ lent_stores {f} m {k} xs p {ys} {r} h s =
       halfwords = t.halfwords;
     }
 
--- a byte read from the lent part
-pub part_byte : (xs : List ℕ) (p : Part) (i : ℕ)
-    → get_or (take (p.base + p.size - p.base) (drop p.base xs)) i 0 ≡ byte_in xs p i
+-- ---- what is read in the memory that was lent
+
+-- it is as long as the part
+pub part_length : (xs : List ℕ) (p : Part) → p.base + p.size ≤ length xs → length (bytes_of p xs) ≡ p.size
+part_length xs p h = length-take p.size (drop p.base xs) ∙ omega (arith, length-drop p.base xs)
+
+-- the part as the code slices it
+pub part_slice : (xs : List ℕ) (p : Part) → lent_of xs p ≡ bytes_of p xs
+part_slice xs p =
+    let length_is : p.base + p.size - p.base ≡ p.size = omega arith in
+    ap (λ (n : ℕ). take n (drop p.base xs)) length_is
+
+-- a byte
+pub part_byte : (xs : List ℕ) (p : Part) (i : ℕ) → get_or (bytes_of p xs) i 0 ≡ byte_in xs p i
 unfolding byte_in
 part_byte xs p i =
-    let length-is : p.base + p.size - p.base ≡ p.size = omega arith in
-    ap (λ (n : ℕ). get_or (take n (drop p.base xs)) i 0) length-is
-    ∙ choose (λ (b : ℕ). get_or (take p.size (drop p.base xs)) i 0 ≡ b) (ltb i p.size)
+    choose (λ (b : ℕ). get_or (bytes_of p xs) i 0 ≡ b) (ltb i p.size)
     (λ t. get_or-take p.size (drop p.base xs) i 0 (ltb-true i p.size t) ∙ get_or-drop p.base xs i 0)
-    (λ t. get_or-eq_default (take p.size (drop p.base xs)) 0
+    (λ t. get_or-eq_default (bytes_of p xs) 0
     (omega (arith, length-take p.size (drop p.base xs), ltb-false i p.size t)))
+
+-- a byte of a memory by itself
+pub whole_byte : (s : List ℕ) (i : ℕ) → byte_in s (whole s) i ≡ get_or s i 0
+unfolding byte_in
+whole_byte s i =
+    choose (λ (b : ℕ). b ≡ get_or s i 0) (ltb i (length s))
+    (λ t. ap (λ (j : ℕ). get_or s j 0) (zero-add i))
+    (λ t. sym (get_or-eq_default s 0 (ltb-false i (length s) t)))

@@ -6,7 +6,7 @@ ghost use Rattle.std.specs.Prelude.{◌≡◌, ◌+◌, ◌^◌, ◌≤◌, ◌<
 ghost use Rattle.model.specs.Memory as def;
 ghost use Rattle.model.specs.Store.{put, put_bytes, put_aligned};
 ghost use Rattle.model.specs.Wait.{size_bytes_of};
-ghost use Rattle.parts.specs.Stored.{store_report, Stores, whole};
+ghost use Rattle.parts.specs.Stored.{store_report, Stores, whole, bytes_of};
 
 use model::{AccessSize, Lengths, Part, Region, Target, VideoMemory};
 use region::mirror;
@@ -132,7 +132,16 @@ pub fn is_sram(target: Target) -> bool
     matches!(target, Target::Sram(_, _))
 }
 
-// ---- stores in a memory, which is lent by itself as its part of the store: past its end a store is dropped
+// ---- a memory as its part of the store, lent on to what reads it
+
+pub fn memory(store: &[u8], part: Part) -> &[u8]
+    requires { part.base + part.size ≤ length store.now }
+    ensures { result.now ≡ bytes_of part store.now }
+{
+    &store[part.base..part.base + part.size]
+}
+
+// ---- stores in a memory that is lent: past its end a store is dropped
 
 // What a store reports: the bytes that landed in its memory, and the video halfwords that it counts. The two go apart: a byte
 // past a memory's end doesn't land, and its halfword counts.

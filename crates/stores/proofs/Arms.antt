@@ -160,13 +160,3 @@ module _ (z : AccessSize) (a v mode : ℕ) {t : Target} {p : Part} {i : ℕ} {xs
       → Stores (puts_at mode z a v t) (video_count mode z t) xs (back xs p.base (p.base + p.size - p.base) ys) r
   sram_stored {b = b} e h f g s =
       rw e (lane_lands p i a v z f g (lent_stores (put_moves i b) xs p (rw e at h).end s))
-
--- a word, in whatever display mode
-pub any_mode : (mode a v : ℕ) (t : Target) (l : Lengths) {before after : List ℕ} {r : Stored}
-    → StoredAt Word a v t l before after r → Stores (puts_at mode Word a v t) (video_count mode Word t) before after r
-any_mode mode a v Unused l s = s
-any_mode mode a v SystemRom l s = s
-any_mode mode a v GamePakRom l s = s
-any_mode mode a v (Plain p i) l s = s
-any_mode mode a v (Video m p i) l s = s
-any_mode mode a v (Sram p i) l s = s

@@ -10,6 +10,7 @@ use Rattle.model.specs.declared.AccessSize.TheVariants.{Byte, Word}
 use Rattle.model.specs.declared.Lengths.{Lengths}
 use Rattle.model.specs.declared.Part.{Part}
 use Rattle.model.specs.declared.Target.{Target}
+use Rattle.model.specs.declared.Target.TheVariants.{Unused, SystemRom, GamePakRom, Plain, Video, Sram}
 use Rattle.parts.specs.Stored.{Stores}
 use Rattle.parts.specs.declared.Stored.{Stored}
 
@@ -33,6 +34,16 @@ StoredAt z a v t l before after r =
 -- a word, which no display mode moves
 abbrev pub StoredWord : ℕ → ℕ → Target → List ℕ → List ℕ → Stored → Type 0
 StoredWord a v t before after r = (mode : ℕ) → Stores (puts_at mode Word a v t) (video_count mode Word t) before after r
+
+-- so a word that is stored in the mode of its moment is stored in any
+pub word_stored : (a v : ℕ) (t : Target) (l : Lengths) {before after : List ℕ} {r : Stored}
+    → StoredAt Word a v t l before after r → StoredWord a v t before after r
+word_stored a v Unused l s = λ mode. s
+word_stored a v SystemRom l s = λ mode. s
+word_stored a v GamePakRom l s = λ mode. s
+word_stored a v (Plain p i) l s = λ mode. s
+word_stored a v (Video m p i) l s = λ mode. s
+word_stored a v (Sram p i) l s = λ mode. s
 
 -- a memory that is met, in a store of these lengths
 pub record Storable (t : Target) (l : Lengths) (store : List ℕ) : Type 0 where

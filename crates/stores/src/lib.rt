@@ -15,7 +15,7 @@ ghost use Rattle.video.specs.Actions.{fills_halfword};
 
 use le::{byte_at, lane};
 use model::{AccessSize, Lengths, Target, VideoMemory};
-use parts::{Stored, put, put_aligned};
+use parts::{Stored, memory, put, put_aligned};
 use video::{VideoTarget, VideoWriteAction};
 use waits::size_bytes;
 
@@ -25,8 +25,7 @@ fn dispcnt_bg_mode(store: &[u8], lengths: Lengths) -> u8
     requires { lengths_sum lengths ≡ length store.now }
     ensures { result ≡ def.mode_of lengths store.now }
 {
-    let io = parts::io(lengths);
-    byte_at(&store[io.base..io.base + io.size], 0) % 8
+    byte_at(memory(store, parts::io(lengths)), 0) % 8
 }
 
 // What stands at a place of VRAM, by the display mode; past its end a byte is dropped, as in object VRAM.
