@@ -1,17 +1,23 @@
 -- What the arms and branches of the loads have in common: a callee's answer and the branch taken decide a test of the
 -- definitions. Assumes nothing.
-use Rattle.std.proofs.Common.{◌≡◌, ℕ, ◌+◌, ◌*◌, Bool, true, false, ltb, List, length, sym, refl, ap, ◌∙◌, ap₂, subst}
+use Rattle.std.proofs.Common.{◌≡◌, ℕ, ◌+◌, ◌*◌, ◌≤◌, Bool, true, false, ltb, List, length, sym, refl, ap, ◌∙◌, ap₂, subst}
 use Rattle.std.specs.Prelude.{if◌then◌else◌}
 use Rattle.std.specs.Prelude.{Some, None}
-use Rattle.model.specs.Base.{further}
+use Rattle.model.specs.Base.{byte_at, further}
 use Rattle.model.specs.Region.{bios_size}
 use Rattle.model.specs.Memory.{target, is_sram, lengths_sum}
-use Rattle.model.specs.Load.{Bus, byte_from, load8, load16, load32}
+use Rattle.model.specs.Load.{Bus, sram_byte, byte_from, load8, load16, load32}
 use Rattle.model.proofs.Laws.Choice.{if_true, if_false}
 use Rattle.model.specs.Laws.Places.{Lies}
 use Rattle.model.proofs.Laws.Places.{target_lies}
 use Rattle.model.specs.declared.Lengths.{Lengths}
 use Rattle.model.specs.declared.Target.{Target}
+use Rattle.model.specs.declared.Target.TheVariants.{Plain, Video, Sram}
+use Rattle.model.specs.declared.VideoMemory.{VideoMemory}
+use Rattle.model.specs.declared.Part.{Part}
+use Rattle.parts.specs.Stored.{whole, bytes_of}
+use Rattle.parts.proofs.LentPart.{part_byte}
+use Rattle.loads.proofs.Words.{sram_part}
 use Rattle.openbus.specs.OpenBus.{latching, protected_read}
 use Rattle.loads.specs.Bus.{Meets}
 
@@ -49,6 +55,23 @@ module _ (l : Lengths) (b : Bus) (a : ℕ) {t : Target} (m : t ≡ target l a) w
   pub byte_is : {v : ℕ} → v ≡ byte_from b a t → v ≡ load8 l b a
   unfolding load8
   byte_is e = e ∙ ap (byte_from b a) m
+
+  -- the byte is read in the memory that is met, as it was lent
+  pub plain_byte : {p : Part} {i v : ℕ} {xs : List ℕ} → t ≡ Plain p i → xs ≡ bytes_of p b.store → v ≡ byte_at xs i
+      → v ≡ load8 l b a
+  plain_byte {p} {i} e f g =
+      byte_is (g ∙ ap (λ (ys : List ℕ). byte_at ys i) f ∙ part_byte b.store p i ∙ ap (byte_from b a) (sym e))
+
+  pub video_byte : {k : VideoMemory} {p : Part} {i v : ℕ} {xs : List ℕ} → t ≡ Video k p i → xs ≡ bytes_of p b.store
+      → v ≡ byte_at xs i → v ≡ load8 l b a
+  video_byte {p = p} {i} e f g =
+      byte_is (g ∙ ap (λ (ys : List ℕ). byte_at ys i) f ∙ part_byte b.store p i ∙ ap (byte_from b a) (sym e))
+
+  pub chip_byte : {p : Part} {i v : ℕ} {xs : List ℕ} → t ≡ Sram p i → p.base + p.size ≤ length b.store
+      → xs ≡ bytes_of p b.store → v ≡ sram_byte xs (whole xs) i → v ≡ load8 l b a
+  chip_byte {p} {i} e h f g =
+      byte_is
+      (g ∙ ap (λ (ys : List ℕ). sram_byte ys (whole ys) i) f ∙ sram_part b.store p i h ∙ ap (byte_from b a) (sym e))
 
   -- the test of the bus of 8 bits, as the code makes it
   sram_is : {s u : Bool} → s ≡ is_sram t → s ≡ u → is_sram (target l a) ≡ u

@@ -1,7 +1,7 @@
 -- A word that stands in one memory: its number by the part that was lent, its low bytes by their mask, and the aligned load
 -- that they are; and an aligned load where nothing is lent. Assumes nothing.
-use Rattle.std.proofs.Common.{◌≡◌, ℕ, zero, suc, ◌+◌, ◌-◌, ◌/◌, ◌%◌, ◌^◌, ◌<◌, ◌≤◌, true, false, ltb, List, [], ◌∷◌, length, take, drop, sym, refl, ap, ◌∙◌, add_assoc, zero-add, arith, get_or-drop, get_or-take, ltb-false}
-use Rattle.std.specs.Prelude.{Option, Some}
+use Rattle.std.proofs.Common.{◌≡◌, ℕ, zero, suc, ◌+◌, ◌-◌, ◌/◌, ◌%◌, ◌^◌, ◌<◌, ◌≤◌, true, false, ltb, List, [], ◌∷◌, length, take, drop, sym, refl, ap, ◌∙◌, add_assoc, zero-add, arith, get_or-drop, get_or-take, ltb-false, eqb}
+use Rattle.std.specs.Prelude.{Option, Some, if◌then◌else◌}
 use mathlib.Core.Bool.{false≢true}
 use native.Mathlib.Nat.{zero-mod}
 use lib.Bits.{bit_and, and_mask}
@@ -9,8 +9,8 @@ use Rattle.model.specs.Base.{byte_at, number, AllBytes}
 use Rattle.model.specs.Mirror.{rom_offset}
 use Rattle.model.specs.Wait.{size_bytes_of}
 use Rattle.model.specs.Memory.{byte_in, target, is_sram}
-use Rattle.model.specs.Load.{Bus, byte_from, load8, load}
-use Rattle.model.proofs.Laws.Choice.{choose, either}
+use Rattle.model.specs.Load.{Bus, sram_byte, byte_from, load8, load}
+use Rattle.model.proofs.Laws.Choice.{choose, choose₂, either}
 use Rattle.model.specs.Laws.Near.{around, moved}
 use Rattle.model.proofs.Laws.Near.{near}
 use Rattle.model.specs.Laws.Aligned.{AlignedWord}
@@ -21,13 +21,35 @@ use Rattle.model.specs.declared.Lengths.{Lengths}
 use Rattle.model.specs.declared.Part.{Part}
 use Rattle.model.specs.declared.Target.{Target}
 use Rattle.model.specs.declared.Target.TheVariants.{Unused, SystemRom, GamePakRom, Plain, Video, Sram}
-use Rattle.loads.specs.Words.{word_at, word_from, reads_zero}
+use Rattle.parts.specs.Stored.{whole, bytes_of}
+use Rattle.parts.proofs.LentPart.{part_length, whole_byte, part_byte}
+use Rattle.loads.specs.Words.{word_at, word_in, word_from, reads_zero}
 
 -- the number in bytes of the k that were lent from a on
 pub number_part : (n : ℕ) (xs : List ℕ) (a k i : ℕ) → i + n ≤ k → number n (take k (drop a xs)) i ≡ number n xs (a + i)
 number_part zero xs a k i h = refl
 number_part (suc n) xs a k i h =
     rw (get_or-take k (drop a xs) i 0 (omega arith), get_or-drop, number_part n xs a k (i + 1) (omega arith), add_assoc)
+
+-- a word that is found in the memory that was lent
+pub word_part : (xs : List ℕ) (p : Part) (i : ℕ) → p.base + p.size ≤ length xs
+    → word_at (bytes_of p xs) 0 (length (bytes_of p xs)) i ≡ word_in xs p i
+unfolding word_at
+word_part xs p i h =
+    ap (λ (n : ℕ). word_at (bytes_of p xs) 0 n i) (part_length xs p h)
+    ∙ choose₂ (λ (x y : Option ℕ). x ≡ y) (ltb p.size (i + 4)) (λ e. refl)
+    (λ e. ap (λ (n : ℕ). Some n)
+    (ap (number 4 (bytes_of p xs)) (zero-add i) ∙ number_part 4 xs p.base p.size i (ltb-false p.size (i + 4) e)))
+
+-- a byte of SRAM that is found in the chip, as it was lent
+pub sram_part : (xs : List ℕ) (p : Part) (i : ℕ) → p.base + p.size ≤ length xs
+    → sram_byte (bytes_of p xs) (whole (bytes_of p xs)) i ≡ sram_byte xs p i
+unfolding sram_byte
+sram_part xs p i h =
+    let n = part_length xs p h in
+    ap (λ (k : ℕ). if eqb k 0 then 0xFF else byte_in (bytes_of p xs) (whole (bytes_of p xs)) (i % k)) n
+    ∙ ap (λ (b : ℕ). if eqb p.size 0 then 0xFF else b)
+    (whole_byte (bytes_of p xs) (i % p.size) ∙ part_byte xs p (i % p.size))
 
 -- the low bytes of a word by their mask
 pub masked : (z : AccessSize) (w : ℕ) → bit_and w (256 ^ size_bytes_of z - 1) ≡ w % 256 ^ size_bytes_of z

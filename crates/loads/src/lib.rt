@@ -8,14 +8,16 @@ ghost use Rattle.model.specs.Base.{AllBytes};
 ghost use Rattle.model.specs.Memory.{lengths_sum, target};
 ghost use Rattle.model.specs.Load as def;
 ghost use Rattle.model.specs.Wait.{size_bytes_of};
-ghost use Rattle.model.specs.Laws.Places.{InPart, Lies};
+ghost use Rattle.model.specs.Laws.Places.{Lies};
 ghost use Rattle.model.specs.Step.{Media as Lent};
+ghost use Rattle.parts.specs.Stored.{whole};
 ghost use Rattle.loads.specs.Bus.{media, bus, Parted, parted};
 ghost use Rattle.loads.specs.Words as words;
 
-use model::{AccessSize, Lengths, Part, Target};
+use le::byte_at;
+use model::{AccessSize, Lengths, Target};
 use openbus::OpenBusState;
-use parts::{byte_in, is_sram, target_of};
+use parts::{is_sram, memory, target_of};
 use region::mirror::rom_offset;
 use std::marker::Model;
 use waits::size_bytes;
@@ -64,21 +66,19 @@ fn read_bios8(addr: u32, pc: u32, latch: u32, bios: &[u8]) -> u8
     };
     match openbus::bios_protect_read(pc, state) {
         Some(opcode) => openbus::bios_protect_byte(opcode, addr),
-        None => le::byte_at(bios, addr as usize),
+        None => byte_at(bios, addr as usize),
     }
 }
 
 // A load repeats at the chip's length; without a chip it gives 0xFF.
-#[tactic(auto, unfolding(model::specs::Load::sram_byte))]
-fn read_sram8(store: &[u8], part: Part, index: usize) -> u8
-    requires { part.base + part.size ≤ length store.now }
-    ensures { result ≡ def.sram_byte store.now part index }
+#[tactic(auto, using(parts::proofs::LentPart::whole_byte), unfolding(model::specs::Load::sram_byte))]
+fn read_sram8(chip: &[u8], index: usize) -> u8
+    ensures { result ≡ def.sram_byte chip.now (whole chip.now) index }
 {
-    let size = part.size;
-    if size == 0 {
+    if chip.is_empty() {
         return 0xFF;
     }
-    byte_in(store, part, index % size)
+    byte_at(chip, index % chip.len())
 }
 
 impl<'a> Bus<'a> {
@@ -91,11 +91,11 @@ impl<'a> Bus<'a> {
         match at {
             Target::Unused => 0,
             Target::SystemRom => read_bios8(addr, self.pc, self.latch, self.bios),
-            Target::GamePakRom => le::byte_at(self.rom, rom_offset(addr)),
+            Target::GamePakRom => byte_at(self.rom, rom_offset(addr)),
             Target::Plain(part, index) | Target::Video(_, part, index) => {
-                byte_in(self.store, part, index)
+                byte_at(memory(self.store, part), index)
             }
-            Target::Sram(part, index) => read_sram8(self.store, part, index),
+            Target::Sram(part, index) => { read_sram8(memory(self.store, part), index) }
         }
     }
 
@@ -135,30 +135,17 @@ impl<'a> Bus<'a> {
 
 // The word at a place, if all four bytes of it stand in the memory.
 #[tactic(auto, unfolding(crate::specs::Words::word_at))]
-fn word_in(store: &[u8], part: Part, index: usize) -> Option<u32>
-    requires { InPart (length store.now) part index }
-    ensures { result ≡ words.word_in store.now part index }
-{
-    if part.size < index + 4 {
-        return None;
-    }
-    let base = part.base;
-    let end = base + part.size;
-    Some(le::read32(&store[base..end], index))
-}
-
-#[tactic(auto, unfolding(crate::specs::Words::word_at))]
-fn word_of_rom(rom: &[u8], index: usize) -> Option<u32>
+fn word_in(bytes: &[u8], index: usize) -> Option<u32>
     requires { index + 4 < 2 ^ 64 }
-    ensures { result ≡ words.word_at rom.now 0 (length rom.now) index }
+    ensures { result ≡ words.word_at bytes.now 0 (length bytes.now) index }
 {
-    if rom.len() < index + 4 {
+    if bytes.len() < index + 4 {
         return None;
     }
-    Some(le::read32(rom, index))
+    Some(le::read32(bytes, index))
 }
 
-#[tactic(auto, unfolding(crate::specs::Words::word_at))]
+#[tactic(auto, using(crate::proofs::Words::word_part))]
 fn word_from(at: Target, addr: u32, rom: &[u8], store: &[u8]) -> Option<u32>
     requires { Lies (length store.now) at }
     ensures word { result ≡ words.word_from rom.now store.now addr at }
@@ -167,8 +154,10 @@ fn word_from(at: Target, addr: u32, rom: &[u8], store: &[u8]) -> Option<u32>
 {
     match at {
         Target::Unused | Target::SystemRom | Target::Sram(_, _) => None,
-        Target::GamePakRom => word_of_rom(rom, rom_offset(addr)),
-        Target::Plain(part, index) | Target::Video(_, part, index) => word_in(store, part, index),
+        Target::GamePakRom => word_in(rom, rom_offset(addr)),
+        Target::Plain(part, index) | Target::Video(_, part, index) => {
+            word_in(memory(store, part), index)
+        }
     }
 }
 

@@ -1,5 +1,5 @@
 -- What a store reports, and the contract of every function that stores, from the leaf on (W-201).
-use Rattle.std.specs.Prelude.{◌≡◌, refl, List, [], ◌++◌, ℕ, ◌+◌, ◌^◌, ◌≤◌, ◌<◌, length}
+use Rattle.std.specs.Prelude.{◌≡◌, refl, List, [], ◌++◌, ℕ, ◌+◌, ◌^◌, ◌≤◌, ◌<◌, length, take, drop}
 use Rattle.std.proofs.Common.{sym, ap, ap₂, ◌∙◌, arith, length-append}
 use Rattle.model.specs.Store.{Put, landed}
 use Rattle.model.proofs.Laws.Stores.{landed_append}
@@ -18,6 +18,10 @@ pub record Stores (ps : List Put) (k : ℕ) (before after : List ℕ) (r : Store
 -- a memory that is lent by itself
 abbrev pub whole : List ℕ → Part
 whole xs = record { base = 0; size = length xs }
+
+-- the bytes of a memory, which is a part of the store
+abbrev pub bytes_of : Part → List ℕ → List ℕ
+bytes_of p s = take p.size (drop p.base s)
 
 -- ---- laws
 

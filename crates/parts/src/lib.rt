@@ -5,10 +5,10 @@
 ghost use Rattle.std.specs.Prelude.{◌≡◌, ◌+◌, ◌^◌, ◌≤◌, ◌<◌, length};
 ghost use Rattle.model.specs.Memory as def;
 ghost use Rattle.model.specs.Store.{put, put_bytes, put_aligned};
-ghost use Rattle.parts.specs.Stored.{store_report, Stores, whole};
+ghost use Rattle.model.specs.Wait.{size_bytes_of};
+ghost use Rattle.parts.specs.Stored.{store_report, Stores, whole, bytes_of};
 
-use le::byte_at;
-use model::{Lengths, Part, Region, Target, VideoMemory};
+use model::{AccessSize, Lengths, Part, Region, Target, VideoMemory};
 use region::mirror;
 
 // ---- the seven memories, one after the other
@@ -132,17 +132,16 @@ pub fn is_sram(target: Target) -> bool
     matches!(target, Target::Sram(_, _))
 }
 
-// ---- a memory as its part of the store, lent on: past its end a load gives 0 and a store is dropped
+// ---- a memory as its part of the store, lent on to what reads it
 
-#[tactic(auto, unfolding(model::specs::Memory::byte_in))]
-pub fn byte_in(store: &[u8], part: Part, index: usize) -> u8
+pub fn memory(store: &[u8], part: Part) -> &[u8]
     requires { part.base + part.size ≤ length store.now }
-    ensures { result ≡ def.byte_in store.now part index }
+    ensures { result.now ≡ bytes_of part store.now }
 {
-    let base = part.base;
-    let end = base + part.size;
-    byte_at(&store[base..end], index)
+    &store[part.base..part.base + part.size]
 }
+
+// ---- stores in a memory that is lent: past its end a store is dropped
 
 // What a store reports: the bytes that landed in its memory, and the video halfwords that it counts. The two go apart: a byte
 // past a memory's end doesn't land, and its halfword counts.
@@ -165,63 +164,48 @@ impl Stored {
     }
 }
 
-// The leaf: it is lent a memory, and writes one byte of it or none.
+// The leaf: one byte, or none.
 #[tactic(auto, unfolding(model::specs::Store::put))]
-fn write_slice(buf: &mut [u8], index: usize, value: u8) -> Stored
-    ensures { Stores (put (whole buf.old) index value) 0 buf.old buf.new result }
+pub fn put(memory: &mut [u8], index: usize, value: u8) -> Stored
+    ensures { Stores (put (whole memory.old) index value) 0 memory.old memory.new result }
 {
-    if index >= buf.len() {
+    if index >= memory.len() {
         return Stored {
             landed: 0,
             halfwords: 0,
         };
     }
-    buf[index] = value;
+    memory[index] = value;
     Stored {
         landed: 1,
         halfwords: 0,
     }
 }
 
-// A byte.
-#[tactic(auto, unfolding(model::specs::Store::put))]
-pub fn put(store: &mut [u8], part: Part, index: usize, value: u8) -> Stored
-    requires { part.base + part.size ≤ length store.old }
-    ensures { Stores (put part index value) 0 store.old store.new result }
+// The N low bytes of a value, from an index on.
+fn put_bytes<const N: usize>(memory: &mut [u8], index: usize, value: u32) -> Stored
+    requires { (N ≤ 4) × (index + N ≤ 2 ^ 64) }
+    ensures { Stores (put_bytes (whole memory.old) index N value) 0 memory.old memory.new result }
 {
-    let base = part.base;
-    let end = base + part.size;
-    write_slice(&mut store[base..end], index, value)
+    let mut stored = Stored {
+        landed: 0,
+        halfwords: 0,
+    };
+    let mut rest = value;
+    for k in 0..N {
+        stored = stored.then(put(memory, index + k, (rest % 256) as u8));
+        rest /= 256;
+    }
+    stored
 }
 
-// The two low bytes of a value, from an index on.
-#[tactic(auto, unfolding(model::specs::Store::put))]
-fn put_two(store: &mut [u8], part: Part, index: usize, value: u32) -> Stored
-    requires { (part.base + part.size ≤ length store.old) × (index + 1 < 2 ^ 64) }
-    ensures { Stores (put_bytes part index 2 value) 0 store.old store.new result }
+// A byte, a halfword or a word, aligned: `write16_video_raw` and its kin, for every memory.
+pub fn put_aligned(size: AccessSize, memory: &mut [u8], index: usize, value: u32) -> Stored
+    ensures { Stores (put_aligned (whole memory.old) index (size_bytes_of size) value) 0 memory.old memory.new result }
 {
-    let low = put(store, part, index, (value % 256) as u8);
-    let high = put(store, part, index + 1, (value / 256 % 256) as u8);
-    low.then(high)
-}
-
-// A halfword, aligned: `write16_video_raw`, for every memory.
-#[tactic(auto, unfolding(model::specs::Store::put))]
-pub fn put_half(store: &mut [u8], part: Part, index: usize, value: u32) -> Stored
-    requires { part.base + part.size ≤ length store.old }
-    ensures { Stores (put_aligned part index 2 value) 0 store.old store.new result }
-{
-    put_two(store, part, index / 2 * 2, value)
-}
-
-// A word, aligned.
-#[tactic(auto, unfolding(model::specs::Store::put))]
-pub fn put_word(store: &mut [u8], part: Part, index: usize, value: u32) -> Stored
-    requires { part.base + part.size ≤ length store.old }
-    ensures { Stores (put_aligned part index 4 value) 0 store.old store.new result }
-{
-    let aligned = index / 4 * 4;
-    let low = put_two(store, part, aligned, value);
-    let high = put_two(store, part, aligned + 2, value / 0x1_0000);
-    low.then(high)
+    match size {
+        AccessSize::Byte => put_bytes::<1>(memory, index, value),
+        AccessSize::Half => put_bytes::<2>(memory, index / 2 * 2, value),
+        AccessSize::Word => put_bytes::<4>(memory, index / 4 * 4, value),
+    }
 }

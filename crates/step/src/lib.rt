@@ -317,7 +317,7 @@ fn clear_words(
     let mut at = addr;
     for _ in 0..words {
         let target = parts::target_of(at, lengths);
-        let stored = stores::write_word(target, at, 0, store);
+        let stored = stores::write(AccessSize::Word, target, at, 0, store, lengths);
         let counted = count_store(held, target, stored.halfwords);
         held = counted;
         landed += stored.landed;

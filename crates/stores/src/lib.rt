@@ -7,46 +7,44 @@ ghost use Rattle.std.specs.Prelude.{◌≡◌, [], ◌+◌, ◌^◌, ◌≤◌, 
 ghost use Rattle.model.specs.Memory.{lengths_sum};
 ghost use Rattle.model.specs.Video.{fills};
 ghost use Rattle.model.specs.Store as def;
-ghost use Rattle.parts.specs.Stored.{Stores};
+ghost use Rattle.parts.specs.Stored.{Stores, whole};
 ghost use Rattle.model.specs.Laws.Places.{Lies};
-ghost use Rattle.stores.specs.Stored.{Filled, StoredPlain, StoredAt, StoredWord, Storable};
+ghost use Rattle.stores.specs.Stored.{Filled, StoredVideo, StoredAt, Storable};
 ghost use Rattle.model.specs.declared.VideoMemory.TheVariants.{VideoRam};
-ghost use Rattle.model.specs.declared.Target.TheVariants.{Video};
 ghost use Rattle.video.specs.Actions.{fills_halfword};
 
-use le::lane;
-use model::{AccessSize, Lengths, Part, Target, VideoMemory};
-use parts::{Stored, byte_in, put, put_half, put_word};
+use le::{byte_at, lane};
+use model::{AccessSize, Lengths, Target, VideoMemory};
+use parts::{Stored, memory, put, put_aligned};
 use video::{VideoTarget, VideoWriteAction};
 use waits::size_bytes;
 
-// The display mode.
-#[tactic(auto, unfolding(model::specs::Store::mode_of))]
+// The display mode: I/O is lent here.
+#[tactic(auto, using(parts::proofs::LentPart::part_byte), unfolding(model::specs::Store::mode_of))]
 fn dispcnt_bg_mode(store: &[u8], lengths: Lengths) -> u8
     requires { lengths_sum lengths ≡ length store.now }
     ensures { result ≡ def.mode_of lengths store.now }
 {
-    byte_in(store, parts::io(lengths), 0) % 8
+    byte_at(memory(store, parts::io(lengths)), 0) % 8
 }
 
-// What stands at a place of VRAM, by the display mode of this moment; past its end a byte is dropped, as in object VRAM.
+// What stands at a place of VRAM, by the display mode; past its end a byte is dropped, as in object VRAM.
 #[tactic(auto, unfolding(model::specs::Video::is_obj_vram, model::specs::Video::obj_vram_base, video::specs::Actions::vram_class))]
-fn vram_target(index: usize, store: &[u8], lengths: Lengths) -> VideoTarget
-    requires { (lengths_sum lengths ≡ length store.now) × (index < 2 ^ 32) }
-    ensures { fills_halfword result ≡ fills (def.mode_of lengths store.now) VideoRam index }
+fn vram_target(index: usize, mode: u8) -> VideoTarget
+    requires { index < 2 ^ 32 }
+    ensures { fills_halfword result ≡ fills mode VideoRam index }
 {
-    let mode = dispcnt_bg_mode(store, lengths);
     video::classify_vram_offset(index as u32, mode).unwrap_or(VideoTarget::ObjVram)
 }
 
 // What video.rs calls a memory.
-fn video_target(memory: VideoMemory, index: usize, store: &[u8], lengths: Lengths) -> VideoTarget
-    requires { (lengths_sum lengths ≡ length store.now) × (index < 2 ^ 32) }
-    ensures { fills_halfword result ≡ fills (def.mode_of lengths store.now) memory index }
+fn video_target(kind: VideoMemory, index: usize, mode: u8) -> VideoTarget
+    requires { index < 2 ^ 32 }
+    ensures { fills_halfword result ≡ fills mode kind index }
 {
-    match memory {
+    match kind {
         VideoMemory::PaletteRam => VideoTarget::Palette,
-        VideoMemory::VideoRam => vram_target(index, store, lengths),
+        VideoMemory::VideoRam => vram_target(index, mode),
         VideoMemory::ObjectRam => VideoTarget::Oam,
     }
 }
@@ -62,74 +60,58 @@ fn dropped() -> Stored
 }
 
 // A byte store fills its halfword, or is dropped.
-fn write8_video(
-    target: VideoTarget,
-    part: Part,
-    index: usize,
-    value: u8,
-    store: &mut [u8],
-) -> Stored
-    requires { part.base + part.size ≤ length store.old }
-    ensures { Filled (fills_halfword target) part index value store.old store.new result }
+fn write8_video(target: VideoTarget, memory: &mut [u8], index: usize, value: u8) -> Stored
+    ensures { Filled (fills_halfword target) (whole memory.old) index value memory.old memory.new result }
 {
     match video::resolve_strb(target, value) {
         VideoWriteAction::ExpandByteToHalfword { halfword } => {
-            let filled = put_half(store, part, index, halfword as u32);
+            let filled = put_aligned(AccessSize::Half, memory, index, halfword as u32);
             Stored {
-                landed: filled.landed,
                 halfwords: 1,
+                ..filled
             }
         }
         VideoWriteAction::Store | VideoWriteAction::Ignore | VideoWriteAction::Reject => dropped(),
     }
 }
 
+// A store to video memory, in a display mode.
 fn write_video(
     size: AccessSize,
-    memory: VideoMemory,
-    part: Part,
+    kind: VideoMemory,
+    memory: &mut [u8],
     index: usize,
     value: u32,
-    store: &mut [u8],
-    lengths: Lengths,
+    mode: u8,
 ) -> Stored
-    requires { Storable (Video memory part index) lengths store.old }
-    ensures { StoredAt size 0 value (Video memory part index) lengths store.old store.new result }
+    requires { index < 2 ^ 32 }
+    ensures { StoredVideo (fills mode kind index) size (whole memory.old) index value memory.old memory.new result }
 {
     match size {
         AccessSize::Byte => {
-            let target = video_target(memory, index, store, lengths);
-            write8_video(target, part, index, (value % 256) as u8, store)
+            let target = video_target(kind, index, mode);
+            write8_video(target, memory, index, (value % 256) as u8)
         }
         AccessSize::Half => {
-            let half = put_half(store, part, index, value);
+            let half = put_aligned(size, memory, index, value);
             Stored {
-                landed: half.landed,
                 halfwords: 1,
+                ..half
             }
         }
         AccessSize::Word => {
-            let word = put_word(store, part, index, value);
+            let word = put_aligned(size, memory, index, value);
             Stored {
-                landed: word.landed,
                 halfwords: 2,
+                ..word
             }
         }
     }
 }
 
-fn write_plain(size: AccessSize, part: Part, index: usize, value: u32, store: &mut [u8]) -> Stored
-    requires { part.base + part.size ≤ length store.old }
-    ensures { StoredPlain size part index value store.old store.new result }
-{
-    match size {
-        AccessSize::Byte => put(store, part, index, (value % 256) as u8),
-        AccessSize::Half => put_half(store, part, index, value),
-        AccessSize::Word => put_word(store, part, index, value),
-    }
-}
-
-// `write8`, `write16`, `write32`, by the size; the value's low bits are stored.
+// `write8`, `write16`, `write32`, by the size; the value's low bits are stored. The memory that is met is lent here, on to what
+// writes it. A block (W-207) stores its words by it too, and the compiler is to put it into both.
+#[inline(always)]
 pub fn write(
     size: AccessSize,
     target: Target,
@@ -143,30 +125,18 @@ pub fn write(
 {
     match target {
         Target::Unused | Target::SystemRom | Target::GamePakRom => dropped(),
-        Target::Plain(part, index) => write_plain(size, part, index, value, store),
-        Target::Video(memory, part, index) => {
-            write_video(size, memory, part, index, value, store, lengths)
+        Target::Plain(part, index) => {
+            let memory = &mut store[part.base..part.base + part.size];
+            put_aligned(size, memory, index, value)
         }
-        Target::Sram(part, index) => put(store, part, index, lane(value, addr % size_bytes(size))),
-    }
-}
-
-// `write32`, for the words of a block (W-207): in a function of its own, so that `write` has one caller, into which the compiler
-// puts it. It does the same in every display mode.
-pub fn write_word(target: Target, addr: u32, value: u32, store: &mut [u8]) -> Stored
-    requires { Lies (length store.old) target }
-    ensures { StoredWord addr value target store.old store.new result }
-{
-    match target {
-        Target::Unused | Target::SystemRom | Target::GamePakRom => dropped(),
-        Target::Plain(part, index) => put_word(store, part, index, value),
-        Target::Video(_memory, part, index) => {
-            let word = put_word(store, part, index, value);
-            Stored {
-                landed: word.landed,
-                halfwords: 2,
-            }
+        Target::Video(kind, part, index) => {
+            let mode = dispcnt_bg_mode(store, lengths);
+            let memory = &mut store[part.base..part.base + part.size];
+            write_video(size, kind, memory, index, value, mode)
         }
-        Target::Sram(part, index) => put(store, part, index, lane(value, addr % 4)),
+        Target::Sram(part, index) => {
+            let memory = &mut store[part.base..part.base + part.size];
+            put(memory, index, lane(value, addr % size_bytes(size)))
+        }
     }
 }
