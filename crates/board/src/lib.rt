@@ -12,8 +12,7 @@ use waits::waitcnt::WaitCnt;
 
 // ---- reading
 
-fn load_prefetch(board: &[u8], enabled: bool) -> PrefetchBuffer
-    requires { length board.now ≡ def.board_length }
+fn load_prefetch(board: &[u8; BOARD_LENGTH], enabled: bool) -> PrefetchBuffer
     ensures { result ≡ def.prefetch_of board.now enabled }
 {
     PrefetchBuffer {
@@ -29,8 +28,7 @@ fn load_prefetch(board: &[u8], enabled: bool) -> PrefetchBuffer
 }
 
 #[tactic(auto, unfolding(model::specs::BoardBytes::clock_of))]
-pub fn load_clock(board: &[u8]) -> Clock
-    requires { length board.now ≡ def.board_length }
+pub fn load_clock(board: &[u8; BOARD_LENGTH]) -> Clock
     ensures { result ≡ def.clock_of board.now }
 {
     let waitcnt = read16(board, 0);
@@ -48,16 +46,14 @@ pub fn load_clock(board: &[u8]) -> Clock
 }
 
 // The eight halfwords of the prefetch buffer.
-pub fn load_halves(board: &[u8]) -> [u16; 8]
-    requires { length board.now ≡ def.board_length }
+pub fn load_halves(board: &[u8; BOARD_LENGTH]) -> [u16; 8]
     ensures { result ≡ def.halves_from board.now 20 8 }
 {
     std::array::from_fn(|i| read16(board, 20 + 2 * i))
 }
 
 #[tactic(auto, unfolding(model::specs::BoardBytes::contents_of))]
-pub fn load_contents(board: &[u8]) -> Contents
-    requires { length board.now ≡ def.board_length }
+pub fn load_contents(board: &[u8; BOARD_LENGTH]) -> Contents
     ensures { result ≡ def.contents_of board.now }
 {
     Contents {
@@ -138,8 +134,7 @@ fn sound_previous(p: Previous) -> bool
 
 // Zero bytes are zero, flags are 0 or 1, and WAITCNT bit 13 is clear.
 #[tactic(auto, unfolding(model::specs::BoardBytes::sound_bytes))]
-fn sound_bytes(board: &[u8]) -> bool
-    requires { length board.now ≡ def.board_length }
+fn sound_bytes(board: &[u8; BOARD_LENGTH]) -> bool
     ensures { result ≡ def.sound_bytes board.now }
 {
     (board[7] == 0)
@@ -155,9 +150,9 @@ fn sound_bytes(board: &[u8]) -> bool
 pub fn is_sound(board: &[u8]) -> bool
     ensures { result ≡ def.sound board.now }
 {
-    if board.len() != BOARD_LENGTH {
+    let Some(board) = board.as_array() else {
         return false;
-    }
+    };
     let clock = load_clock(board);
     sound_bytes(board) & sound_prefetch(clock.prefetch) & sound_previous(clock.previous)
 }
@@ -225,8 +220,7 @@ fn put_previous(out: &mut [u8], p: Previous)
 
 // The whole board, written over what stood there.
 #[tactic(auto, unfolding(model::specs::BoardBytes::board_bytes))]
-pub fn put_board(board: &mut [u8], clock: Clock, halves: [u16; 8], contents: Contents)
-    requires { length board.old ≡ def.board_length }
+pub fn put_board(board: &mut [u8; BOARD_LENGTH], clock: Clock, halves: [u16; 8], contents: Contents)
     ensures { board.new ≡ def.board_bytes (record { clock = clock; halves = halves; contents = contents }) }
 {
     put_clock(&mut board[0..20], clock);

@@ -77,7 +77,7 @@ impl From<Refusal> for Bill {
     }
 }
 
-// Runs the records of an accepted sheet.
+// Runs the records of an accepted sheet. What was accepted is as long as a board.
 fn run_accepted(
     sheet: &[u8],
     board: &mut [u8],
@@ -93,6 +93,7 @@ fn run_accepted(
         rom.now answers.old lengths) Accepted }
 {
     let n = sheet::record_count(sheet);
+    let board = board.as_mut_array().unwrap();
     let machine = Machine {
         clock: board::load_clock(board),
         contents: board::load_contents(board),
@@ -265,7 +266,7 @@ fn explain_examined(
         lengths,
     };
     lent.examine_grounds(grounds)?;
-    let clock = board::load_clock(board);
+    let clock = board::load_clock(board.as_array().unwrap());
     let report = run_accepted(sheet, board, store, bios, rom, answers, lengths);
     grounds::put_grounds(sheet, report.index as usize, clock, answers, grounds);
     Ok(report)
@@ -315,8 +316,7 @@ fn preview_examined(sheet: &[u8], board: &[u8], answers: &mut [u8]) -> Result<Re
         ≡ preview (asking sheet.now board.now answers.old) }
 {
     examine::examine_preview(sheet, board, answers)?;
-    let mut spare = [0u8; BOARD_LENGTH];
-    spare.copy_from_slice(board);
+    let mut spare: [u8; BOARD_LENGTH] = *board.as_array().unwrap();
     let mut store = [0u8; 0];
     let report = run_accepted(
         sheet,
