@@ -1,9 +1,9 @@
 -- The trail follows the clock: what is told from it is what the clock before the step says, and behind the step it follows the
 -- clock that the step leaves.
-use Rattle.std.specs.Prelude.{◌≡◌, ℕ, zero, suc, ◌+◌, ◌*◌, ◌%◌, ◌^◌, ◌<◌, ◌≤◌, Bool, true, false, ◌&&◌, ◌≢◌, ◌++◌, ◌==◌, nat_eq, nat_le}
+use Rattle.std.specs.Prelude.{◌≡◌, ℕ, zero, suc, ◌+◌, ◌*◌, ◌%◌, ◌^◌, ◌≤◌, Bool, true, false, ◌&&◌, ◌≢◌, ◌++◌, ◌==◌, nat_eq}
 use Rattle.std.proofs.Math.Path.{refl, ap}
 use Rattle.std.proofs.Common.{sym, ap₂, ◌∙◌, arith}
-use borrow.Author.Tests.{ne_eqb, lt-leb}
+use borrow.Author.Tests.{ne_eqb}
 use Rattle.std.specs.Prelude.{if◌then◌else◌}
 use Rattle.std.specs.Prelude.{Option, Some, None}
 use Rattle.model.specs.Base.{bit, further, lowered}
@@ -20,7 +20,7 @@ use Rattle.model.specs.Step.{waits_of, set_waitcnt, priced, rom_fetched, fetched
 use Rattle.model.specs.Sheet.{step_of}
 use Rattle.model.specs.Grounds.{half_ground, kind_ground, first_ground, fetch_grounds_in, fetch_grounds, data_grounds_on, data_grounds}
 use Rattle.model.specs.Grounds.{block_grounds, grounds, beat_bytes}
-use Rattle.model.proofs.Laws.Choice.{choose, choose₂, by_test, if_true, if_false, tests, parts, eqb_ne}
+use Rattle.model.proofs.Laws.Choice.{choose, choose₂, by_test, if_false, tests, parts, eqb_ne}
 use Rattle.model.specs.Laws.Window.{InRom}
 use Rattle.model.proofs.Laws.Window.{true_in_window, window_in}
 use Rattle.model.proofs.Laws.Sizes.{aligned_rom}
@@ -33,7 +33,7 @@ use Rattle.model.proofs.Laws.Rules.{hit_exactly}
 use Rattle.model.specs.Laws.Bounds.{SmallWaits}
 use Rattle.model.proofs.Laws.Bounds.{rom_waits_small}
 use Rattle.model.specs.Laws.Sound.{Sound, SoundClock}
-use Rattle.model.proofs.Laws.Sound.{ready_sound, tick1_sound, fetched_sound, set_enabled_sound}
+use Rattle.model.proofs.Laws.Sound.{ready_sound, tick1_sound, fetched_sound}
 use Rattle.model.proofs.Laws.Sound.{code_fetched_sound}
 use Rattle.model.proofs.Laws.Commits.{ready_same, tick1_one, tick1_none}
 use Rattle.model.specs.declared.PrefetchBuffer.{PrefetchBuffer}

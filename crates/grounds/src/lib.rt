@@ -275,24 +275,25 @@ fn put_block(out: &mut [u8], next: u64, addr: u32, words: u32) -> u64
     from
 }
 
+// The trail behind a step that clears the previous access.
+fn cleared(front: u32) -> Trail
+    ensures { result ≡ trails.trail front trails.nowhere }
+{
+    Trail {
+        front,
+        next: NOWHERE,
+    }
+}
+
 // The trail behind a step that has no grounds. FETCH takes from the buffer what it hits, RESTART has it start anew, and like
 // WAITCNT they clear the previous access.
 fn passed(trail: Trail, step: Step, taken: u8) -> Trail
     ensures { result ≡ trails.passes step trail taken }
 {
     match step {
-        Step::Fetch(_) => Trail {
-            front: std::num::wrapping_add_u32(trail.front, 2 * taken as u32),
-            next: NOWHERE,
-        },
-        Step::Restart(addr) => Trail {
-            front: addr / 2 * 2,
-            next: NOWHERE,
-        },
-        Step::Waitcnt(_) => Trail {
-            next: NOWHERE,
-            ..trail
-        },
+        Step::Waitcnt(_) => cleared(trail.front),
+        Step::Fetch(_) => cleared(std::num::wrapping_add_u32(trail.front, 2 * taken as u32)),
+        Step::Restart(addr) => cleared(addr / 2 * 2),
         _ => trail,
     }
 }
@@ -305,10 +306,7 @@ fn tell(out: &mut [u8], trail: Trail, before: Before, step: Step, taken: u8) -> 
     match step {
         Step::Instruction(_, isa, addr, ..) => {
             put(out, code_beats(trail.front, before, isa, addr));
-            Trail {
-                front: code_front(trail.front, isa, addr),
-                next: NOWHERE,
-            }
+            cleared(code_front(trail.front, isa, addr))
         }
         Step::Read(size, addr) | Step::Write(size, addr, _) => {
             put(out, data_beats(trail.next, size, addr));
