@@ -8,23 +8,17 @@ use lib.Seq.{append_snoc, set_at}
 use Rattle.model.specs.Base.{further}
 use Rattle.model.specs.Price.{Bus, OnEwram, OnVideo, OnRom, OnSram, OnFast, bus_of}
 use Rattle.model.specs.Region.{decode}
-use Rattle.model.specs.Wait.{access_size_of, aligned}
+use Rattle.model.specs.Wait.{aligned}
 use Rattle.model.specs.Sheet.{max_words}
 use Rattle.model.specs.Grounds.{ground_byte, data_grounds_on, grounds_length, beat_bytes, beat_ground}
 use Rattle.model.proofs.Laws.Choice.{either}
-use Rattle.model.proofs.Laws.Sizes.{size_back}
 use Rattle.model.proofs.Laws.Grounds.{byte_back}
 use Rattle.model.proofs.Laws.Explained.{beat_width}
 use Rattle.model.specs.declared.Ground.{Ground}
 use Rattle.model.specs.declared.Ground.TheVariants.{Sequential, EwramBus, SramBus, VideoBus, Fast}
-use Rattle.model.specs.declared.AccessSize.{AccessSize}
 use Rattle.model.specs.declared.AccessSize.TheVariants.{Word}
 use Rattle.grounds.specs.declared.Beats.{Beats}
-use Rattle.model.proofs.Laws.Limits.{words_between}
 use Rattle.grounds.specs.Trail.{beats_of, beat_count, ground_at, data_from, data_next, block_from, block_next, TellsBlock}
-
--- the words of a block are few
-pub ruleset word_laws = (words_between)
 
 -- ---- one byte more
 
@@ -163,16 +157,11 @@ module _ {next addr words : ℕ} {out : List ℕ} {place from at : ℕ} where
         room = omega (arith, t.room, t.many, w.many, length-append t.told gs, word_few from at);
       }
 
-  -- as the code has it, of size 4
+  -- as the code has it
   pub turn : {left : ℕ} {b : Beats} {k behind on : ℕ} → Telling next addr words out place from at left → 0 < left
-      → beats_of b ≡ beat_bytes (data_from from (access_size_of 4) at) → k ≡ beat_count b
-      → behind ≡ data_next (access_size_of 4) at
-      → on ≡ further 4 at
+      → beats_of b ≡ beat_bytes (data_from from Word at) → k ≡ beat_count b → behind ≡ data_next Word at → on ≡ further 4 at
       → Telling next addr words (set (set out place b.first) (place + 1) b.second) (place + k) behind on (left - 1)
-  turn {left} {b} t h e many n f =
-      let word = size_back Word in
-      rw (many, n ∙ ap (λ (z : AccessSize). data_next z at) word, f)
-      (more (left - 1) b t (omega (arith, h)) (e ∙ ap (λ (z : AccessSize). beat_bytes (data_from from z at)) word))
+  turn {left} {b} t h e many n f = rw (many, n, f) (more (left - 1) b t (omega (arith, h)) e)
 
   -- the buffer keeps its length
   pub same_room : {left : ℕ} → Telling next addr words out place from at left → length out ≡ grounds_length

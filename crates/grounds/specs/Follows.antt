@@ -1,9 +1,9 @@
 -- The trail follows the clock: what is told from it is what the clock before the step says, and behind the step it follows the
 -- clock that the step leaves.
-use Rattle.std.specs.Prelude.{◌≡◌, ℕ, zero, suc, ◌+◌, ◌*◌, ◌%◌, ◌^◌, ◌<◌, ◌≤◌, Bool, true, false, ◌&&◌, ◌≢◌, ◌++◌, ◌==◌, nat_eq, nat_le}
+use Rattle.std.specs.Prelude.{◌≡◌, ℕ, zero, suc, ◌+◌, ◌*◌, ◌%◌, ◌^◌, ◌≤◌, Bool, true, false, ◌&&◌, ◌≢◌, ◌++◌, ◌==◌, nat_eq}
 use Rattle.std.proofs.Math.Path.{refl, ap}
 use Rattle.std.proofs.Common.{sym, ap₂, ◌∙◌, arith}
-use borrow.Author.Tests.{ne_eqb, lt-leb}
+use borrow.Author.Tests.{ne_eqb}
 use Rattle.std.specs.Prelude.{if◌then◌else◌}
 use Rattle.std.specs.Prelude.{Option, Some, None}
 use Rattle.model.specs.Base.{bit, further, lowered}
@@ -17,14 +17,13 @@ use Rattle.model.specs.declared.Previous.{Previous}
 use Rattle.model.specs.Price.{wide, Bus, OnEwram, OnVideo, OnRom, OnSram, OnFast, bus_of}
 use Rattle.model.specs.Timing.{code_size}
 use Rattle.model.specs.Step.{waits_of, set_waitcnt, priced, rom_fetched, fetched_in, code_fetched, code_clock, timed, clock_after}
-use Rattle.model.specs.Sheet.{isa_state, words_of, step_of}
+use Rattle.model.specs.Sheet.{step_of}
 use Rattle.model.specs.Grounds.{half_ground, kind_ground, first_ground, fetch_grounds_in, fetch_grounds, data_grounds_on, data_grounds}
 use Rattle.model.specs.Grounds.{block_grounds, grounds, beat_bytes}
-use Rattle.model.proofs.Laws.Choice.{choose, choose₂, by_test, if_true, if_false, tests, parts, eqb_ne}
+use Rattle.model.proofs.Laws.Choice.{choose, choose₂, by_test, if_false, tests, parts, eqb_ne}
 use Rattle.model.specs.Laws.Window.{InRom}
 use Rattle.model.proofs.Laws.Window.{true_in_window, window_in}
 use Rattle.model.proofs.Laws.Sizes.{aligned_rom}
-use Rattle.model.specs.Laws.Kinds.{Other}
 use Rattle.model.proofs.Laws.Kinds.{by_kind}
 use Rattle.model.specs.Laws.Previous.{SoundPrevious}
 use Rattle.model.proofs.Laws.Previous.{access_sound, there, rom_kind, some_size}
@@ -34,7 +33,7 @@ use Rattle.model.proofs.Laws.Rules.{hit_exactly}
 use Rattle.model.specs.Laws.Bounds.{SmallWaits}
 use Rattle.model.proofs.Laws.Bounds.{rom_waits_small}
 use Rattle.model.specs.Laws.Sound.{Sound, SoundClock}
-use Rattle.model.proofs.Laws.Sound.{ready_sound, tick1_sound, fetched_sound, set_enabled_sound}
+use Rattle.model.proofs.Laws.Sound.{ready_sound, tick1_sound, fetched_sound}
 use Rattle.model.proofs.Laws.Sound.{code_fetched_sound}
 use Rattle.model.proofs.Laws.Commits.{ready_same, tick1_one, tick1_none}
 use Rattle.model.specs.declared.PrefetchBuffer.{PrefetchBuffer}
@@ -46,6 +45,7 @@ use Rattle.model.specs.declared.AccessKind.TheVariants.{Nonseq, Seq}
 use Rattle.model.specs.declared.AccessSize.{AccessSize}
 use Rattle.model.specs.declared.AccessSize.TheVariants.{Word}
 use Rattle.model.specs.declared.SheetRecord.{SheetRecord}
+use Rattle.model.specs.declared.Version.{Version}
 use Rattle.model.specs.declared.Step.{Step}
 use Rattle.model.specs.declared.Step.TheVariants.{Read, Write, Waitcnt, Idle, Fetch, Restart, Instruction, Pc, Latch}
 use Rattle.model.specs.declared.Step.TheVariants.{BlockRead, BlockWrite}
@@ -53,8 +53,8 @@ use Rattle.model.specs.declared.IsaState.{IsaState}
 use Rattle.model.specs.declared.IsaState.TheVariants.{Arm, Thumb}
 use Rattle.grounds.specs.declared.Trail.{Trail}
 use Rattle.grounds.specs.declared.Before.{Before}
-use Rattle.grounds.specs.Trail.{nowhere, begins, front_hits, code_front, ground_at, data_from, data_next, block_from, block_next}
-use Rattle.grounds.specs.Trail.{beats_by, passes, trail_after}
+use Rattle.grounds.specs.Trail.{nowhere, trail, begins, front_hits, code_front, ground_at, data_from, data_next, block_from, block_next}
+use Rattle.grounds.specs.Trail.{beats_by, trail_after}
 
 -- ---- the front of a buffer
 
@@ -281,74 +281,53 @@ pub begins_follows : (c : Clock) → SoundClock c → Follows (begins c) c
 unfolding begins
 begins_follows c s = record { front = begins_front c.prefetch s.buffer; next = refl }
 
--- what is told of a record, and the trail behind it, are what the clock says
-abbrev Right : Trail → Clock → Before → SheetRecord → ℕ → ℕ → Step → Type 0
-Right t c b r taken k x =
-    1 ≤ k → (k ≢ 2 → k ≢ 11 → taken ≡ (timed c x).hits)
-    → (beats_by k r t b ≡ beat_bytes (grounds c x)) × Follows (trail_after k r t taken) (clock_after c x)
+-- by the hits byte FETCH is told what it takes from the buffer; no other step asks it
+abbrev pub Counted : Clock → ℕ → Step → Type 0
+Counted c taken (Read z a) = Unit {0}
+Counted c taken (Write z a v) = Unit {0}
+Counted c taken (Waitcnt v) = Unit {0}
+Counted c taken (Idle n) = Unit {0}
+Counted c taken (Fetch a) = taken ≡ bit (hit c.prefetch a)
+Counted c taken (Restart a) = Unit {0}
+Counted c taken (Instruction v isa a op jump) = Unit {0}
+Counted c taken (Pc a) = Unit {0}
+Counted c taken (Latch v) = Unit {0}
+Counted c taken (BlockRead a n) = Unit {0}
+Counted c taken (BlockWrite a n) = Unit {0}
 
-module _ (t : Trail) (c : Clock) (b : Before) (r : SheetRecord) (taken : ℕ) (s : SoundClock c) (f : Follows t c)
+-- the hits byte of any record but WRITE and BLOCK WRITE is such
+pub counted : (c : Clock) (r : SheetRecord) (taken : ℕ) → (r.kind ≢ 2 → r.kind ≢ 11 → taken ≡ (timed c (step_of r)).hits)
+    → Counted c taken (step_of r)
+counted c r taken =
+    by_kind (λ (k : ℕ) (x : Step). (k ≢ 2 → k ≢ 11 → taken ≡ (timed c x).hits) → Counted c taken x) r
+    (λ h. tt) (λ h. tt) (λ h. tt) (λ h. tt) (λ h. h (omega arith) (omega arith)) (λ h. tt) (λ h. tt) (λ h. tt) (λ h. tt)
+    (λ h. tt) (λ o h. tt)
+
+module _ (t : Trail) (c : Clock) (b : Before) (taken : ℕ) (s : SoundClock c) (f : Follows t c)
     (e : b ≡ record { count = c.prefetch.count; forced = c.force_next_fetch_n }) where
-  abbrev Shown : ℕ → Step → Type 0
-  Shown k x = Right t c b r taken k x
+  -- what is told of a step, and the trail behind it, are what the clock says
+  abbrev Right : Step → Type 0
+  Right x = (beats_by x t b ≡ beat_bytes (grounds c x)) × Follows (trail_after x t taken) (clock_after c x)
 
-  -- a data access
-  data_told : (k : ℕ) → nat_le k 2 ≡ true → (k == 7) ≡ false
-      → beats_by k r t b ≡ beat_bytes (data_grounds (previous c) (access_size_of r.size) r.address)
-  unfolding beats_by
-  data_told k l n =
-      if_false _ _ _ n ∙ if_true _ _ _ l
-      ∙ ap (λ (m : ℕ). beat_bytes (data_from m (access_size_of r.size) r.address)) f.next
-      ∙ ap beat_bytes (data_same (previous c) (access_size_of r.size) r.address s.previous)
+  -- a data access, whether it reads or writes
+  data_told : (z : AccessSize) (a : ℕ) → beat_bytes (data_from t.next z a) ≡ beat_bytes (data_grounds (previous c) z a)
+  data_told z a =
+      ap (λ (m : ℕ). beat_bytes (data_from m z a)) f.next ∙ ap beat_bytes (data_same (previous c) z a s.previous)
 
   goes_on : (z : AccessSize) (a : ℕ) → data_next z a ≡ (if nat_eq (size_bytes_of z) 0 then nowhere else data_next z a)
   goes_on z a = sym (if_false _ _ _ (some_size z))
 
-  read_right : Shown 1 (Read (access_size_of r.size) r.address)
-  unfolding trail_after ticks
-  read_right k h = (data_told 1 refl refl, record { front = f.front; next = goes_on (access_size_of r.size) r.address })
+  waitcnt_follows : (v : ℕ) → Follows (trail_after (Waitcnt v) t taken) (clock_after c (Waitcnt v))
+  unfolding ticks set_waitcnt
+  waitcnt_follows v =
+      record { front = switch_front t.front (prefetch_enable (written c.waitcnt v)) c.prefetch f.front; next = refl }
 
-  write_right : Shown 2 (Write (access_size_of r.size) r.address r.value)
-  unfolding trail_after ticks
-  write_right k h = (data_told 2 refl refl, record { front = f.front; next = goes_on (access_size_of r.size) r.address })
-
-  waitcnt_right : Shown 3 (Waitcnt (r.value % 0x1_0000))
-  unfolding beats_by trail_after passes ticks set_waitcnt
-  waitcnt_right k h =
-      let on = prefetch_enable (written c.waitcnt (r.value % 0x1_0000)) in (
-        refl,
-        record {
-          front =
-              still_front t.front (set_enabled on c.prefetch) taken (set_enabled_sound on c.prefetch s.buffer)
-              (h (omega arith) (omega arith)) (switch_front t.front on c.prefetch f.front);
-          next = refl;
-        },
-      )
-
-  idle_right : Shown 4 (Idle r.value)
-  unfolding beats_by trail_after
-  idle_right k h = (
-    refl,
-    record {
-      front =
-          ticks_front (waits_of c) (rom_waits_small c.waitcnt) t.front r.value c.prefetch s.buffer f.front;
-      next = f.next;
-    },
-  )
-
-  fetch_right : Shown 5 (Fetch r.address)
-  unfolding beats_by trail_after passes ticks
-  fetch_right k h = (
-    refl,
-    record {
-      front = fetch_front t.front c.prefetch r.address taken s.buffer (h (omega arith) (omega arith)) f.front;
-      next = refl;
-    },
-  )
-
-  restart_right : Shown 6 (Restart r.address)
-  unfolding beats_by trail_after passes ticks
-  restart_right k h = (refl, record { front = restart_front (waits_of c) c.prefetch r.address; next = refl })
+  idle_follows : (n : ℕ) → Follows t (clock_after c (Idle n))
+  idle_follows n =
+      record {
+        front = ticks_front (waits_of c) (rom_waits_small c.waitcnt) t.front n c.prefetch s.buffer f.front;
+        next = f.next;
+      }
 
   -- an instruction
   code_told : (isa : IsaState) (a : ℕ)
@@ -359,67 +338,36 @@ module _ (t : Trail) (c : Clock) (b : Before) (r : SheetRecord) (taken : ℕ) (s
       ∙ sym (fetch_same (hit c.prefetch) (front_hits t.front c.prefetch.count) c.force_next_fetch_n isa a
       (front_hits_law t.front c.prefetch s.buffer f.front))
 
-  code_right : Shown 7 (Instruction r.version (isa_state r.size) r.address r.value (r.flag == 1))
-  unfolding beats_by trail_after code_clock
-  code_right k h =
-      let isa = isa_state r.size in (
-        ap beat_bytes (code_told isa r.address),
-        record {
-          front =
-              ticks_front (waits_of c) (rom_waits_small c.waitcnt) (code_front t.front isa r.address)
-              (priced c r.version isa r.address r.value (r.flag == 1)).cart_idle
-              (code_fetched c isa r.address) (code_fetched_sound c isa r.address s)
-              (code_fronts c t.front isa r.address s.buffer f.front);
-          next = refl;
-        },
-      )
-
-  pc_right : Shown 8 (Pc r.address)
-  unfolding beats_by trail_after passes ticks
-  pc_right k h = (
-    refl,
-    record {
-      front = still_front t.front c.prefetch taken s.buffer (h (omega arith) (omega arith)) f.front;
-      next = f.next;
-    },
-  )
+  code_follows : (v : Version) (isa : IsaState) (a op : ℕ) (jump : Bool)
+      → Follows (trail (code_front t.front isa a) nowhere) (clock_after c (Instruction v isa a op jump))
+  unfolding code_clock
+  code_follows v isa a op jump =
+      record {
+        front =
+            ticks_front (waits_of c) (rom_waits_small c.waitcnt) (code_front t.front isa a)
+            (priced c v isa a op jump).cart_idle (code_fetched c isa a) (code_fetched_sound c isa a s)
+            (code_fronts c t.front isa a s.buffer f.front);
+        next = refl;
+      }
 
   -- a block, whether it reads or writes
-  abbrev low : ℕ
-  low = aligned Word r.address
+  block_told : (a n : ℕ) → beat_bytes (block_from t.next a n) ≡ beat_bytes (block_grounds (previous c) a n)
+  block_told a n =
+      ap (λ (m : ℕ). beat_bytes (block_from m a n)) f.next ∙ ap beat_bytes (block_same (previous c) a n s.previous)
 
-  abbrev many : ℕ
-  many = words_of r.value
+  block_follows : (a n : ℕ) → block_next t.next a n ≡ next_of (block_previous (previous c) a n)
+  block_follows a n = ap (λ (m : ℕ). block_next m a n) f.next ∙ block_next_law (previous c) a n
 
-  block_told : beat_bytes (block_from t.next low many) ≡ beat_bytes (block_grounds (previous c) low many)
-  block_told =
-      ap (λ (m : ℕ). beat_bytes (block_from m low many)) f.next
-      ∙ ap beat_bytes (block_same (previous c) low many s.previous)
-
-  block_follows : block_next t.next low many ≡ next_of (block_previous (previous c) low many)
-  block_follows = ap (λ (m : ℕ). block_next m low many) f.next ∙ block_next_law (previous c) low many
-
-  block_read_right : Shown 10 (BlockRead low many)
-  unfolding beats_by trail_after ticks
-  block_read_right k h = (block_told, record { front = f.front; next = block_follows })
-
-  block_write_right : Shown 11 (BlockWrite low many)
-  unfolding beats_by trail_after ticks
-  block_write_right k h = (block_told, record { front = f.front; next = block_follows })
-
-  latch_right : Other r.kind → Shown r.kind (Latch r.value)
-  unfolding beats_by trail_after passes ticks
-  latch_right o k h =
-      let above : 6 < r.kind = omega (arith, tests, o.read, o.write, o.waitcnt, o.idle, o.fetch, o.restart) in
-      let wide2 = lt-leb r.kind 2 (omega (arith, above)) in
-      let wide6 = lt-leb r.kind 6 above in
-      let none = h (eqb_ne r.kind 2 o.write) (eqb_ne r.kind 11 o.block_write) in (
-        simp (o.instruction, wide2, o.block_read, o.block_write),
-        simp (o.instruction, wide2, o.block_read, o.block_write, o.idle, o.restart, wide6)
-            (record { front = still_front t.front c.prefetch taken s.buffer none f.front; next = f.next }),
-      )
-
-  pub follows : Shown r.kind (step_of r)
-  follows =
-      by_kind Shown r read_right write_right waitcnt_right idle_right fetch_right restart_right code_right pc_right
-      block_read_right block_write_right latch_right
+  pub follows : (x : Step) → Counted c taken x → Right x
+  unfolding ticks
+  follows (Read z a) h = (data_told z a, record { front = f.front; next = goes_on z a })
+  follows (Write z a v) h = (data_told z a, record { front = f.front; next = goes_on z a })
+  follows (Waitcnt v) h = (refl, waitcnt_follows v)
+  follows (Idle n) h = (refl, idle_follows n)
+  follows (Fetch a) h = (refl, record { front = fetch_front t.front c.prefetch a taken s.buffer h f.front; next = refl })
+  follows (Restart a) h = (refl, record { front = restart_front (waits_of c) c.prefetch a; next = refl })
+  follows (Instruction v isa a op jump) h = (ap beat_bytes (code_told isa a), code_follows v isa a op jump)
+  follows (Pc a) h = (refl, record { front = f.front; next = f.next })
+  follows (Latch v) h = (refl, record { front = f.front; next = f.next })
+  follows (BlockRead a n) h = (block_told a n, record { front = f.front; next = block_follows a n })
+  follows (BlockWrite a n) h = (block_told a n, record { front = f.front; next = block_follows a n })

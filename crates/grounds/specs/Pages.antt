@@ -1,6 +1,6 @@
 -- The digits of the pages: what they say of an address is what its bus says, by one computed test over all pages. And what beats
 -- are as bytes.
-use Rattle.std.specs.Prelude.{◌≡◌, ℕ, zero, suc, ◌*◌, ◌/◌, ◌%◌, ◌^◌, ◌<◌, ◌≤◌, Bool, true, false, ◌&&◌, ◌||◌, ltb, List, [], ◌∷◌, replicate, ◌==◌, nat_eq, nat_lt}
+use Rattle.std.specs.Prelude.{◌≡◌, ℕ, zero, suc, ◌*◌, ◌/◌, ◌%◌, ◌^◌, ◌<◌, ◌≤◌, Bool, true, false, ◌&&◌, ltb, List, [], ◌∷◌, replicate, ◌==◌, nat_eq, nat_lt}
 use Rattle.std.proofs.Math.Path.{refl}
 use Rattle.std.proofs.Common.{sym, ap, ap₂, ◌∙◌, true≢false, arith, eqb-true, ltb-true, ltb-false}
 use Rattle.std.proofs.lemmas.Bool.{false≢true}
@@ -8,9 +8,8 @@ use Rattle.std.specs.Prelude.{if◌then◌else◌}
 use Rattle.std.specs.Prelude.{Option, Some, None}
 use Rattle.model.specs.Base.{further}
 use Rattle.model.specs.Region.{page, region_at, decode, bios_size}
-use Rattle.model.specs.Wait.{access_size_of, window, is_in, in_window}
+use Rattle.model.specs.Wait.{window, is_in, in_window}
 use Rattle.model.specs.Timing.{code_size}
-use Rattle.model.specs.Sheet.{isa_state}
 use Rattle.model.specs.Price.{wide, Bus, OnEwram, OnVideo, OnRom, OnSram, OnFast, bus_of}
 use Rattle.model.specs.Grounds.{ground_byte, half_ground, plain_ground, fetch_grounds_in, fetch_grounds, data_grounds_on, beat_bytes}
 use Rattle.model.proofs.Laws.Choice.{choose, choose₂, either, by_test, tests, and_true_left, and_true_right}
@@ -19,8 +18,9 @@ use Rattle.model.specs.declared.Ground.TheVariants.{Sequential, EwramBus, SramBu
 use Rattle.model.specs.declared.Region.{Region}
 use Rattle.model.specs.declared.Region.TheVariants.{Bios, UnusedLow}
 use Rattle.model.specs.declared.RomWindow.{RomWindow}
+use Rattle.model.specs.declared.AccessSize.{AccessSize}
 use Rattle.model.specs.declared.AccessSize.TheVariants.{Byte, Half, Word}
-use Rattle.model.specs.declared.IsaState.TheVariants.{Arm, Thumb}
+use Rattle.model.specs.declared.IsaState.{IsaState}
 use Rattle.grounds.specs.Trail.{page_digit}
 
 -- the digits, as the code has them
@@ -110,48 +110,47 @@ second_digit = digit_bus second_beats second_byte refl refl
 abbrev zeros : List ℕ
 zeros = replicate 30 0
 
--- of a data access, by whether its size is a byte or a halfword
-wide_bytes : (byte half : Bool) (g h : Ground)
-    → beat_bytes (wide (if byte then Byte else if half then Half else Word) g h)
-    ≡ ground_byte g ∷ (if byte || half then 0 else ground_byte h) ∷ zeros
-wide_bytes true half g h = refl
-wide_bytes false true g h = refl
-wide_bytes false false g h = refl
+-- a second beat is one of a word alone, and of an ARM opcode
+abbrev pub of_word : AccessSize → ℕ → ℕ
+of_word Byte n = 0
+of_word Half n = 0
+of_word Word n = n
+
+abbrev pub of_arm : IsaState → ℕ → ℕ
+of_arm isa n = of_word (code_size isa) n
+
+wide_bytes : (z : AccessSize) (g h : Ground) → beat_bytes (wide z g h) ≡ ground_byte g ∷ of_word z (ground_byte h) ∷ zeros
+wide_bytes Byte g h = refl
+wide_bytes Half g h = refl
+wide_bytes Word g h = refl
 
 -- of an opcode
-pub code_bytes : (size : ℕ) (g h : Ground)
-    → beat_bytes (wide (code_size (isa_state size)) g h) ≡ ground_byte g ∷ (if nat_eq size 2 then 0 else ground_byte h) ∷ zeros
-unfolding isa_state
-code_bytes size g h = by (size == 2)
-  where
-    by : (thumb : Bool)
-        → beat_bytes (wide (code_size (if thumb then Thumb else Arm)) g h)
-        ≡ ground_byte g ∷ (if thumb then 0 else ground_byte h) ∷ zeros
-    by true = refl
-    by false = refl
+pub code_bytes : (isa : IsaState) (g h : Ground)
+    → beat_bytes (wide (code_size isa) g h) ≡ ground_byte g ∷ of_arm isa (ground_byte h) ∷ zeros
+code_bytes isa g h = wide_bytes (code_size isa) g h
 
-one_byte : (g : Ground) (t : Bool) → beat_bytes (g ∷ []) ≡ ground_byte g ∷ (if t then 0 else 0) ∷ zeros
-one_byte g true = refl
-one_byte g false = refl
+one_byte : (g : Ground) (z : AccessSize) → beat_bytes (g ∷ []) ≡ ground_byte g ∷ of_word z 0 ∷ zeros
+one_byte g Byte = refl
+one_byte g Half = refl
+one_byte g Word = refl
 
-bus_bytes : (byte half : Bool) (g : Ground) (b : Bus)
-    → beat_bytes (data_grounds_on (if byte then Byte else if half then Half else Word) g b)
-    ≡ (if nat_eq (first_byte b) 0 then ground_byte g else first_byte b) ∷ (if byte || half then 0 else second_byte b) ∷ zeros
-bus_bytes byte half g OnEwram = wide_bytes byte half EwramBus EwramBus
-bus_bytes byte half g OnVideo = wide_bytes byte half VideoBus VideoBus
-bus_bytes byte half g (OnRom win) = wide_bytes byte half g Sequential
-bus_bytes byte half g OnSram = one_byte SramBus (byte || half)
-bus_bytes byte half g OnFast = one_byte Fast (byte || half)
+bus_bytes : (z : AccessSize) (g : Ground) (b : Bus)
+    → beat_bytes (data_grounds_on z g b)
+    ≡ (if nat_eq (first_byte b) 0 then ground_byte g else first_byte b) ∷ of_word z (second_byte b) ∷ zeros
+bus_bytes z g OnEwram = wide_bytes z EwramBus EwramBus
+bus_bytes z g OnVideo = wide_bytes z VideoBus VideoBus
+bus_bytes z g (OnRom win) = wide_bytes z g Sequential
+bus_bytes z g OnSram = one_byte SramBus z
+bus_bytes z g OnFast = one_byte Fast z
 
-pub data_bytes : (size a : ℕ) (g : Ground)
-    → beat_bytes (data_grounds_on (access_size_of size) g (bus_of (decode a)))
+pub data_bytes : (z : AccessSize) (a : ℕ) (g : Ground)
+    → beat_bytes (data_grounds_on z g (bus_of (decode a)))
     ≡ (if nat_eq (page_digit first_beats a) 0 then ground_byte g else page_digit first_beats a)
-    ∷ (if nat_eq size 1 || size == 2 then 0 else page_digit second_beats a) ∷ zeros
-unfolding access_size_of
-data_bytes size a g =
-    bus_bytes (size == 1) (size == 2) g (bus_of (decode a))
-    ∙ ap₂ (λ (n m : ℕ). (if nat_eq n 0 then ground_byte g else n) ∷ (if nat_eq size 1 || size == 2 then 0 else m) ∷ zeros)
-    (sym (first_digit a)) (sym (second_digit a))
+    ∷ of_word z (page_digit second_beats a) ∷ zeros
+data_bytes z a g =
+    bus_bytes z g (bus_of (decode a))
+    ∙ ap₂ (λ (n m : ℕ). (if nat_eq n 0 then ground_byte g else n) ∷ of_word z m ∷ zeros) (sym (first_digit a))
+    (sym (second_digit a))
 
 -- ---- an opcode's beats, by whether it lies in a window
 
@@ -160,27 +159,27 @@ pub half_at : (hits : ℕ → Bool) (forced : Bool) (a : ℕ) → half_ground (�
 unfolding half_ground
 half_at hits forced a = refl
 
-module _ (hits : ℕ → Bool) (forced : Bool) (size a : ℕ) where
+module _ (hits : ℕ → Bool) (forced : Bool) (isa : IsaState) (a : ℕ) where
   pub code_in : in_window a ≡ true
-      → beat_bytes (fetch_grounds hits forced (isa_state size) a)
+      → beat_bytes (fetch_grounds hits forced isa a)
       ≡ ground_byte (half_ground hits forced a)
-      ∷ (if nat_eq size 2 then 0 else ground_byte (half_ground hits false (further 2 a))) ∷ zeros
+      ∷ of_arm isa (ground_byte (half_ground hits false (further 2 a))) ∷ zeros
   unfolding fetch_grounds
   code_in = by (window a)
     where
       by : (v : Option RomWindow) → is_in v ≡ true
-          → beat_bytes (fetch_grounds_in hits forced a (isa_state size) v)
+          → beat_bytes (fetch_grounds_in hits forced a isa v)
           ≡ ground_byte (half_ground hits forced a)
-          ∷ (if nat_eq size 2 then 0 else ground_byte (half_ground hits false (further 2 a))) ∷ zeros
-      by (Some win) h = code_bytes size (half_ground hits forced a) (half_ground hits false (further 2 a))
+          ∷ of_arm isa (ground_byte (half_ground hits false (further 2 a))) ∷ zeros
+      by (Some win) h = code_bytes isa (half_ground hits forced a) (half_ground hits false (further 2 a))
       by None h = absurd (false≢true h)
 
   pub code_out : in_window a ≡ false
-      → beat_bytes (fetch_grounds hits forced (isa_state size) a) ≡ ground_byte (plain_ground a) ∷ 0 ∷ zeros
+      → beat_bytes (fetch_grounds hits forced isa a) ≡ ground_byte (plain_ground a) ∷ 0 ∷ zeros
   unfolding fetch_grounds
   code_out = by (window a)
     where
       by : (v : Option RomWindow) → is_in v ≡ false
-          → beat_bytes (fetch_grounds_in hits forced a (isa_state size) v) ≡ ground_byte (plain_ground a) ∷ 0 ∷ zeros
+          → beat_bytes (fetch_grounds_in hits forced a isa v) ≡ ground_byte (plain_ground a) ∷ 0 ∷ zeros
       by (Some win) h = absurd (true≢false h)
       by None h = refl

@@ -1,14 +1,13 @@
 -- What the code carries from step to step, in place of the clock: where the buffer's first halfword stands or comes to stand, and
 -- where a data access goes on from the previous one. These are the code's own terms; that they follow the clock is shown in
 -- Follows.antt.
-use Rattle.std.specs.Prelude.{◌≡◌, ℕ, zero, suc, ◌+◌, ◌-◌, ◌*◌, ◌/◌, ◌%◌, ◌^◌, ◌≤◌, Bool, not, ◌&&◌, leb, List, [], ◌∷◌, ◌++◌, length, replicate, ◌==◌, nat_eq, nat_le, nat_lt}
+use Rattle.std.specs.Prelude.{◌≡◌, ℕ, zero, suc, ◌+◌, ◌-◌, ◌*◌, ◌/◌, ◌%◌, ◌^◌, ◌≤◌, Bool, not, ◌&&◌, List, [], ◌∷◌, ◌++◌, length, replicate, ◌==◌, nat_eq, nat_lt}
 use Rattle.std.specs.Prelude.{if◌then◌else◌}
 use Rattle.model.specs.Base.{byte_at, further, lowered}
 use Rattle.model.specs.Region.{page, decode}
-use Rattle.model.specs.Wait.{size_bytes_of, access_size_of, aligned, in_window, force_nonseq}
+use Rattle.model.specs.Wait.{size_bytes_of, aligned, in_window, force_nonseq}
 use Rattle.model.specs.Timing.{code_size}
 use Rattle.model.specs.Price.{bus_of}
-use Rattle.model.specs.Sheet.{isa_state, words_of, is_block}
 use Rattle.model.specs.BoardBytes.{answer_length}
 use Rattle.model.specs.Grounds.{fetch_grounds, data_grounds_on, beat_bytes}
 use Rattle.model.specs.declared.Ground.{Ground}
@@ -17,7 +16,9 @@ use Rattle.model.specs.declared.Clock.{Clock}
 use Rattle.model.specs.declared.AccessSize.{AccessSize}
 use Rattle.model.specs.declared.AccessSize.TheVariants.{Word}
 use Rattle.model.specs.declared.IsaState.{IsaState}
-use Rattle.model.specs.declared.SheetRecord.{SheetRecord}
+use Rattle.model.specs.declared.Step.{Step}
+use Rattle.model.specs.declared.Step.TheVariants.{Read, Write, Waitcnt, Idle, Fetch, Restart, Instruction, Pc, Latch}
+use Rattle.model.specs.declared.Step.TheVariants.{BlockRead, BlockWrite}
 use Rattle.grounds.specs.declared.Beats.{Beats}
 use Rattle.grounds.specs.declared.Trail.{Trail}
 use Rattle.grounds.specs.declared.Before.{Before}
@@ -102,29 +103,49 @@ page_digit digits a = if nat_lt (page a) 16 then digits / 2 ^ (4 * page a) % 16 
 
 -- ---- a step
 
--- a record's, by its kind
-unfoldable pub beats_by : ℕ → SheetRecord → Trail → Before → List ℕ
-beats_by kind r t b =
-    if nat_eq kind 7 then
-    beat_bytes (fetch_grounds (front_hits t.front b.count) b.forced (isa_state r.size) r.address)
-    else if nat_le kind 2 then beat_bytes (data_from t.next (access_size_of r.size) r.address)
-    else if is_block kind then beat_bytes (block_from t.next (aligned Word r.address) (words_of r.value))
-    else beat_bytes []
+-- what is told of it
+abbrev pub beats_by : Step → Trail → Before → List ℕ
+beats_by (Read z a) t b = beat_bytes (data_from t.next z a)
+beats_by (Write z a v) t b = beat_bytes (data_from t.next z a)
+beats_by (Waitcnt v) t b = beat_bytes []
+beats_by (Idle n) t b = beat_bytes []
+beats_by (Fetch a) t b = beat_bytes []
+beats_by (Restart a) t b = beat_bytes []
+beats_by (Instruction v isa a op jump) t b = beat_bytes (fetch_grounds (front_hits t.front b.count) b.forced isa a)
+beats_by (Pc a) t b = beat_bytes []
+beats_by (Latch v) t b = beat_bytes []
+beats_by (BlockRead a n) t b = beat_bytes (block_from t.next a n)
+beats_by (BlockWrite a n) t b = beat_bytes (block_from t.next a n)
 
--- behind a step that has no grounds, and whose hits byte is `taken`
-unfoldable pub passes : ℕ → ℕ → Trail → ℕ → Trail
-passes kind a t taken =
-    trail (if nat_eq kind 6 then lowered 2 a else further (2 * taken) t.front) (if leb kind 6 then nowhere else t.next)
+-- the trail behind a step that has no grounds, and whose hits byte is `taken`
+abbrev pub passes : Step → Trail → ℕ → Trail
+passes (Read z a) t taken = t
+passes (Write z a v) t taken = t
+passes (Waitcnt v) t taken = trail t.front nowhere
+passes (Idle n) t taken = t
+passes (Fetch a) t taken = trail (further (2 * taken) t.front) nowhere
+passes (Restart a) t taken = trail (lowered 2 a) nowhere
+passes (Instruction v isa a op jump) t taken = t
+passes (Pc a) t taken = t
+passes (Latch v) t taken = t
+passes (BlockRead a n) t taken = t
+passes (BlockWrite a n) t taken = t
 
-unfoldable pub trail_after : ℕ → SheetRecord → Trail → ℕ → Trail
-trail_after kind r t taken =
-    if kind == 7 then trail (code_front t.front (isa_state r.size) r.address) nowhere
-    else if nat_le kind 2 then trail t.front (data_next (access_size_of r.size) r.address)
-    else if is_block kind then trail t.front (block_next t.next (aligned Word r.address) (words_of r.value))
-    else if kind == 4 then t
-    else passes kind r.address t taken
+-- and behind any
+abbrev pub trail_after : Step → Trail → ℕ → Trail
+trail_after (Read z a) t taken = trail t.front (data_next z a)
+trail_after (Write z a v) t taken = trail t.front (data_next z a)
+trail_after (Waitcnt v) t taken = passes (Waitcnt v) t taken
+trail_after (Idle n) t taken = passes (Idle n) t taken
+trail_after (Fetch a) t taken = passes (Fetch a) t taken
+trail_after (Restart a) t taken = passes (Restart a) t taken
+trail_after (Instruction v isa a op jump) t taken = trail (code_front t.front isa a) nowhere
+trail_after (Pc a) t taken = passes (Pc a) t taken
+trail_after (Latch v) t taken = passes (Latch v) t taken
+trail_after (BlockRead a n) t taken = trail t.front (block_next t.next a n)
+trail_after (BlockWrite a n) t taken = trail t.front (block_next t.next a n)
 
 -- what is told of a step, and the trail behind it
-pub record Tells (t : Trail) (b : Before) (r : SheetRecord) (taken : ℕ) (out : List ℕ) (after : Trail) : Type 0 where
-  pub told : out ≡ beats_by r.kind r t b
-  pub followed : after ≡ trail_after r.kind r t taken
+pub record Tells (t : Trail) (b : Before) (x : Step) (taken : ℕ) (out : List ℕ) (after : Trail) : Type 0 where
+  pub told : out ≡ beats_by x t b
+  pub followed : after ≡ trail_after x t taken

@@ -27,7 +27,7 @@ use Rattle.model.specs.declared.Step.{Step}
 use Rattle.grounds.specs.declared.Trail.{Trail}
 use Rattle.grounds.specs.declared.Before.{Before}
 use Rattle.grounds.specs.Trail.{begins, before_step, beats_by, trail_after, Tells}
-use Rattle.grounds.specs.Follows.{Follows, begins_follows, follows}
+use Rattle.grounds.specs.Follows.{Follows, begins_follows, counted, follows}
 
 -- ---- what the loop asks
 
@@ -123,34 +123,34 @@ module _ {c : Clock} {n : ℕ} {sheet answers lent : List ℕ} (x : Explainable 
       rw e (next_before j (omega arith))
 
   -- one record more
-  pub turn : {t after : Trail} {b : Before} {r : SheetRecord} {told out : List ℕ} {k part : ℕ} → Going c sheet n lent t told k
-      → k < n → b ≡ before_step c answers k → r ≡ record_at sheet k → Tells t b r (byte_at answers (answer_start k + 8)) out after
-      → part ≡ grounds_length
+  pub turn : {t after : Trail} {b : Before} {y : Step} {told out : List ℕ} {k part : ℕ} → Going c sheet n lent t told k
+      → k < n → b ≡ before_step c answers k → y ≡ step_of (record_at sheet k)
+      → Tells t b y (byte_at answers (answer_start k + 8)) out after → part ≡ grounds_length
       → Going c sheet n lent after (put_mid (grounds_length * k) part told out) (k + 1)
-  turn {t} {after} {b} {r} {told} {out} {k} {part} g h eb er s w =
+  turn {t} {after} {b} {y} {told} {out} {k} {part} g h eb ey s w =
       let d = clock_past c (steps_to sheet k) in
-      let y = step_of (record_at sheet k) in
+      let read = step_of (record_at sheet k) in
       let taken = byte_at answers (answer_start k + 8) in
-      let right = follows t d (before_step c answers k) (record_at sheet k) taken g.sound g.follows
-      (before_is k h) (x.kinds k h) (x.shown k h).hits in
+      let right = follows t d (before_step c answers k) taken g.sound g.follows (before_is k h) read
+      (counted d (record_at sheet k) taken (x.shown k h).hits) in
       record {
         written =
             ap₂ (λ (m : ℕ) (l : List ℕ). put_mid (grounds_length * k) m l out) w g.written
             ∙ ap (put_mid (grounds_length * k) grounds_length _)
             (s.told
-            ∙ ap₂ (λ (q : SheetRecord) (p : Before). beats_by q.kind q t p) er eb
+            ∙ ap₂ (λ (z : Step) (p : Before). beats_by z t p) ey eb
             ∙ right.0)
-            ∙ put_next grounds_length k (grounds_bytes (grounds_after c (steps_to sheet k))) lent (beat_bytes (grounds d y))
+            ∙ put_next grounds_length k (grounds_bytes (grounds_after c (steps_to sheet k))) lent (beat_bytes (grounds d read))
             (done_size k)
             ∙ ap (λ (l : List ℕ). l ++ drop (grounds_length * (k + 1)) lent)
-            (sym (blocks_snoc beat_bytes (grounds_after c (steps_to sheet k)) (grounds d y))
-            ∙ ap grounds_bytes (sym (ap (grounds_after c) (steps_snoc sheet k) ∙ grounds_snoc c (steps_to sheet k) y)));
+            (sym (blocks_snoc beat_bytes (grounds_after c (steps_to sheet k)) (grounds d read))
+            ∙ ap grounds_bytes (sym (ap (grounds_after c) (steps_snoc sheet k) ∙ grounds_snoc c (steps_to sheet k) read)));
         follows =
             rw (
               clock_further k,
-              s.followed ∙ ap (λ (q : SheetRecord). trail_after q.kind q t taken) er,
+              s.followed ∙ ap (λ (z : Step). trail_after z t taken) ey,
             )
             right.1;
-        sound = rw (clock_further k) (clock_after_sound d y g.sound);
+        sound = rw (clock_further k) (clock_after_sound d read g.sound);
         within = omega (arith, h);
       }

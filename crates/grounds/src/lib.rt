@@ -7,15 +7,15 @@
 
 ghost use Rattle.std.specs.Prelude.{◌≡◌, ℕ, ◌*◌, ◌≤◌, false, [], ◌++◌, map, length, drop};
 ghost use Rattle.std.specs.Prelude.{if◌then◌else◌};
-ghost use Rattle.model.specs.Sheet.{isa_state, max_words, records_from, step_of};
-ghost use Rattle.model.specs.Wait.{access_size_of};
+ghost use Rattle.model.specs.Laws.Bounds.{Short};
+ghost use Rattle.model.specs.Sheet.{max_words, records_from, step_of};
 ghost use Rattle.model.specs.Grounds as def;
 ghost use Rattle.grounds.specs.Trail as trails;
 ghost use Rattle.grounds.specs.Turns.{Explainable};
 
-use model::{ANSWER_LENGTH, AccessSize, Clock, GROUNDS_LENGTH, Ground, SheetRecord};
+use model::{ANSWER_LENGTH, AccessSize, Clock, GROUNDS_LENGTH, Ground, IsaState, Step};
 use names::ground_byte;
-use records::sheet::{record_at, rules_of, words_of};
+use records::sheet::{record_at, rules_of, step_of};
 
 pub mod names;
 
@@ -27,6 +27,11 @@ struct Beats {
     first: u8,
     second: u8,
 }
+
+const NO_BEATS: Beats = Beats {
+    first: 0,
+    second: 0,
+};
 
 // How many they are, where there is one: no ground has the byte 0.
 fn beat_count(beats: Beats) -> usize
@@ -153,9 +158,9 @@ fn hits(front: u32, count: u8, addr: u32) -> bool
 }
 
 #[tactic(auto, using(crate::specs::Pages::code_in, crate::specs::Pages::code_out), unfolding(model::specs::Grounds::half_ground))]
-fn code_beats(front: u32, before: Before, size: u8, addr: u32) -> Beats
+fn code_beats(front: u32, before: Before, isa: IsaState, addr: u32) -> Beats
     ensures { trails.beats_of result
-        ≡ def.beat_bytes (def.fetch_grounds (trails.front_hits front before.count) before.forced (isa_state size) addr) }
+        ≡ def.beat_bytes (def.fetch_grounds (trails.front_hits front before.count) before.forced isa addr) }
 {
     if !waits::in_window(addr) {
         return Beats {
@@ -168,16 +173,22 @@ fn code_beats(front: u32, before: Before, size: u8, addr: u32) -> Beats
     let second = half_ground(hits(front, before.count, next), false, next);
     Beats {
         first: ground_byte(first),
-        second: unless(size == 2, ground_byte(second)),
+        second: match isa {
+            IsaState::Arm => ground_byte(second),
+            IsaState::Thumb => 0,
+        },
     }
 }
 
 // Behind an opcode from ROM the buffer goes on, whether it had the opcode or not.
-#[tactic(auto, unfolding(crate::specs::Trail::code_front, model::specs::Sheet::isa_state))]
-fn code_front(front: u32, size: u8, addr: u32) -> u32
-    ensures { result ≡ trails.code_front front (isa_state size) addr }
+#[tactic(auto, unfolding(crate::specs::Trail::code_front))]
+fn code_front(front: u32, isa: IsaState, addr: u32) -> u32
+    ensures { result ≡ trails.code_front front isa addr }
 {
-    let bytes: u32 = if size == 2 { 2 } else { 4 };
+    let bytes = match isa {
+        IsaState::Arm => 4,
+        IsaState::Thumb => 2,
+    };
     let behind = std::num::wrapping_add_u32(addr, bytes) / 2 * 2;
     if waits::in_window(addr) {
         behind
@@ -205,13 +216,13 @@ fn digit(digits: u64, addr: u32) -> u8
 }
 
 #[tactic(auto, using(crate::specs::Pages::data_bytes))]
-fn data_beats(next: u64, size: u8, addr: u32) -> Beats
-    ensures { trails.beats_of result ≡ def.beat_bytes (trails.data_from next (access_size_of size) addr) }
+fn data_beats(next: u64, size: AccessSize, addr: u32) -> Beats
+    ensures { trails.beats_of result ≡ def.beat_bytes (trails.data_from next size addr) }
 {
-    let low = waits::aligned(waits::access_size(size as u32), addr);
+    let low = waits::aligned(size, addr);
     let in_rom = ground_byte(first_ground(next, low));
     let first = digit(FIRST_BEATS, addr);
-    let narrow = (size == 1) | (size == 2);
+    let narrow = !matches!(size, AccessSize::Word);
     Beats {
         first: if first == 0 { in_rom } else { first },
         second: unless(narrow, digit(SECOND_BEATS, addr)),
@@ -219,12 +230,10 @@ fn data_beats(next: u64, size: u8, addr: u32) -> Beats
 }
 
 // The next access goes on behind it.
-#[tactic(auto, unfolding(model::specs::Wait::access_size_of))]
-fn data_next(size: u8, addr: u32) -> u64
-    ensures { result ≡ trails.data_next (access_size_of size) addr }
+fn data_next(size: AccessSize, addr: u32) -> u64
+    ensures { result ≡ trails.data_next size addr }
 {
-    let access = waits::access_size(size as u32);
-    std::num::wrapping_add_u32(waits::aligned(access, addr), waits::shifted_bytes(access)) as u64
+    std::num::wrapping_add_u32(waits::aligned(size, addr), waits::shifted_bytes(size)) as u64
 }
 
 // ---- a step
@@ -256,73 +265,70 @@ fn put_block(out: &mut [u8], next: u64, addr: u32, words: u32) -> u64
     let mut from = next;
     let mut at = addr;
     for _ in 0..words {
-        let beats = data_beats(from, 4, at);
+        let beats = data_beats(from, AccessSize::Word, at);
         out[place] = beats.first;
         out[place + 1] = beats.second;
         place += beat_count(beats);
-        from = data_next(4, at);
+        from = data_next(AccessSize::Word, at);
         at = std::num::wrapping_add_u32(at, 4);
     }
     from
 }
 
-// The trail behind a step that has no grounds. FETCH takes from the buffer what it hits, RESTART has it start anew, and like
-// WAITCNT they clear the previous access.
-#[tactic(auto, unfolding(crate::specs::Trail::passes))]
-fn passed(trail: Trail, r: SheetRecord, taken: u8) -> Trail
-    ensures { result ≡ trails.passes r.kind r.address trail taken }
+// The trail behind a step that clears the previous access.
+fn cleared(front: u32) -> Trail
+    ensures { result ≡ trails.trail front trails.nowhere }
 {
-    let kind = r.kind;
-    let on = std::num::wrapping_add_u32(trail.front, 2 * taken as u32);
-    let anew = r.address / 2 * 2;
-    let front = if kind == 6 { anew } else { on };
-    let next = if kind <= 6 { NOWHERE } else { trail.next };
-    Trail { front, next }
+    Trail {
+        front,
+        next: NOWHERE,
+    }
 }
 
-// Tells the grounds of a record's step, and follows the trail over it. `taken` is its hits byte.
-#[tactic(auto, using(crate::proofs::Words::word_laws), unfolding(crate::specs::Trail::beats_by, crate::specs::Trail::trail_after))]
-fn tell(out: &mut [u8], trail: Trail, before: Before, r: SheetRecord, taken: u8) -> Trail
-    requires { length out.old ≡ def.grounds_length }
-    ensures { trails.Tells trail before r taken out.new result }
+// The trail behind a step that has no grounds. FETCH takes from the buffer what it hits, RESTART has it start anew, and like
+// WAITCNT they clear the previous access.
+fn passed(trail: Trail, step: Step, taken: u8) -> Trail
+    ensures { result ≡ trails.passes step trail taken }
 {
-    if r.kind == 7 {
-        put(out, code_beats(trail.front, before, r.size, r.address));
-        return Trail {
-            front: code_front(trail.front, r.size, r.address),
-            next: NOWHERE,
-        };
+    match step {
+        Step::Waitcnt(_) => cleared(trail.front),
+        Step::Fetch(_) => cleared(std::num::wrapping_add_u32(trail.front, 2 * taken as u32)),
+        Step::Restart(addr) => cleared(addr / 2 * 2),
+        _ => trail,
     }
-    if r.kind <= 2 {
-        put(out, data_beats(trail.next, r.size, r.address));
-        return Trail {
-            front: trail.front,
-            next: data_next(r.size, r.address),
-        };
+}
+
+// Tells the grounds of a step, and follows the trail over it. `taken` is its hits byte.
+fn tell(out: &mut [u8], trail: Trail, before: Before, step: Step, taken: u8) -> Trail
+    requires { (length out.old ≡ def.grounds_length) × Short step }
+    ensures { trails.Tells trail before step taken out.new result }
+{
+    match step {
+        Step::Instruction(_, isa, addr, ..) => {
+            put(out, code_beats(trail.front, before, isa, addr));
+            cleared(code_front(trail.front, isa, addr))
+        }
+        Step::Read(size, addr) | Step::Write(size, addr, _) => {
+            put(out, data_beats(trail.next, size, addr));
+            Trail {
+                next: data_next(size, addr),
+                ..trail
+            }
+        }
+        Step::BlockRead(addr, words) | Step::BlockWrite(addr, words) => {
+            put(out, NO_BEATS);
+            let next = put_block(out, trail.next, addr, words);
+            Trail { next, ..trail }
+        }
+        _ => {
+            put(out, NO_BEATS);
+            passed(trail, step, taken)
+        }
     }
-    put(
-        out,
-        Beats {
-            first: 0,
-            second: 0,
-        },
-    );
-    if r.kind == 4 {
-        return trail;
-    }
-    if (r.kind == 10) | (r.kind == 11) {
-        let low = waits::aligned(AccessSize::Word, r.address);
-        let next = put_block(out, trail.next, low, words_of(r.value));
-        return Trail {
-            front: trail.front,
-            next,
-        };
-    }
-    passed(trail, r, taken)
 }
 
 // The grounds of the first n records, behind a run of them that began with this clock and gave these answers.
-#[tactic(auto, using(crate::specs::Turns::same_room))]
+#[tactic(auto, using(crate::specs::Turns::same_room, model::proofs::Laws::Limits::short_step))]
 pub fn put_grounds(sheet: &[u8], n: usize, clock: Clock, answers: &[u8], grounds: &mut [u8])
     requires { Explainable clock n sheet.now answers.now grounds.old }
     ensures { grounds.new
@@ -333,12 +339,13 @@ pub fn put_grounds(sheet: &[u8], n: usize, clock: Clock, answers: &[u8], grounds
     let mut trail = begun(clock);
     for k in 0..n {
         let before = before_step(clock, answers, k);
+        let step = step_of(record_at(sheet, version, k));
         let at = GROUNDS_LENGTH * k;
         let behind = tell(
             &mut grounds[at..at + GROUNDS_LENGTH],
             trail,
             before,
-            record_at(sheet, version, k),
+            step,
             answers[ANSWER_LENGTH * k + 8],
         );
         trail = behind;
