@@ -16,16 +16,15 @@ use Rattle.model.specs.Video.{obj_vram_base, is_obj_vram, fills}
 use Rattle.model.specs.Wait.{size_bytes_of}
 use Rattle.model.specs.Store.{landed, put, put_aligned, video_puts, puts_at, video_count}
 use Rattle.model.specs.Laws.Places.{Lies}
-use Rattle.model.specs.declared.Lengths.{Lengths}
 use Rattle.model.specs.declared.Target.{Target}
-use Rattle.model.specs.declared.Target.TheVariants.{Unused, SystemRom, GamePakRom, Plain, Video, Sram}
+use Rattle.model.specs.declared.Target.TheVariants.{Plain, Video, Sram}
 use Rattle.model.specs.declared.VideoMemory.{VideoMemory}
 use Rattle.model.proofs.Laws.Choice.{choose, either}
 use Rattle.model.proofs.Laws.Stores.{put_bytes_one}
 use Rattle.model.specs.declared.AccessSize.{AccessSize}
 use Rattle.model.specs.declared.AccessSize.TheVariants.{Byte, Half, Word}
 use Rattle.model.specs.declared.Part.{Part}
-use Rattle.stores.specs.Stored.{Filled, StoredVideo, StoredAt}
+use Rattle.stores.specs.Stored.{Filled, StoredVideo}
 use Rattle.parts.proofs.LentPart.{back, lent_of, put_moves, aligned_moves, video_moves, lent_stores}
 use Rattle.parts.specs.Stored.{store_report, Stores, whole, drops, same_puts, counting}
 use Rattle.parts.specs.declared.Stored.{Stored}
