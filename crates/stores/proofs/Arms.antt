@@ -10,7 +10,7 @@ use lib.Dec.{ltb, leb, lit<, lit≤}
 use borrow.Author.Tests.{ltb-false, le-leb}
 use Rattle.std.specs.Prelude.{if◌then◌else◌}
 use Rattle.std.specs.Prelude.{Option, Some, None, unwrap_or}
-use Rattle.model.specs.Base.{bit, lowered, byte_of}
+use Rattle.model.specs.Base.{bit, byte_of}
 use Rattle.model.specs.Region.{vram_size}
 use Rattle.model.specs.Video.{obj_vram_base, is_obj_vram, fills}
 use Rattle.model.specs.Wait.{size_bytes_of}
@@ -20,7 +20,6 @@ use Rattle.model.specs.declared.Target.{Target}
 use Rattle.model.specs.declared.Target.TheVariants.{Plain, Video, Sram}
 use Rattle.model.specs.declared.VideoMemory.{VideoMemory}
 use Rattle.model.proofs.Laws.Choice.{choose, either}
-use Rattle.model.proofs.Laws.Stores.{put_bytes_one}
 use Rattle.model.specs.declared.AccessSize.{AccessSize}
 use Rattle.model.specs.declared.AccessSize.TheVariants.{Byte, Half, Word}
 use Rattle.model.specs.declared.Part.{Part}
@@ -107,10 +106,6 @@ unwrapped_fills mode i {x = Some t} p e = within_fills mode i p e refl
 unwrapped_fills mode i {x = None} p e = outside_drops mode i p e refl
 
 -- ---- the bytes of each size
-
--- a byte is aligned at every place
-pub byte_aligned : (p : Part) (i v : ℕ) → put p i (v % 256) ≡ put_aligned p i 1 v
-byte_aligned p i v = let at : lowered 1 i ≡ i = omega arith in rw at (sym (put_bytes_one p i v))
 
 -- a byte store to video memory, from what its place is called
 pub byte_video : (p : Part) (i v : ℕ) {f g : Bool} {before after : List ℕ} {r : Stored}
