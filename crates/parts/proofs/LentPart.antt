@@ -222,12 +222,6 @@ lent_stores {f} m {k} xs p {ys} {r} h s =
 pub part_length : (xs : List ℕ) (p : Part) → p.base + p.size ≤ length xs → length (bytes_of p xs) ≡ p.size
 part_length xs p h = length-take p.size (drop p.base xs) ∙ omega (arith, length-drop p.base xs)
 
--- the part as the code slices it
-pub part_slice : (xs : List ℕ) (p : Part) → lent_of xs p ≡ bytes_of p xs
-part_slice xs p =
-    let length_is : p.base + p.size - p.base ≡ p.size = omega arith in
-    ap (λ (n : ℕ). take n (drop p.base xs)) length_is
-
 -- a byte
 pub part_byte : (xs : List ℕ) (p : Part) (i : ℕ) → get_or (bytes_of p xs) i 0 ≡ byte_in xs p i
 unfolding byte_in

@@ -10,22 +10,20 @@ use lib.Dec.{ltb, leb, lit<, lit≤}
 use borrow.Author.Tests.{ltb-false, le-leb}
 use Rattle.std.specs.Prelude.{if◌then◌else◌}
 use Rattle.std.specs.Prelude.{Option, Some, None, unwrap_or}
-use Rattle.model.specs.Base.{bit, lowered, byte_of}
+use Rattle.model.specs.Base.{bit, byte_of}
 use Rattle.model.specs.Region.{vram_size}
 use Rattle.model.specs.Video.{obj_vram_base, is_obj_vram, fills}
 use Rattle.model.specs.Wait.{size_bytes_of}
 use Rattle.model.specs.Store.{landed, put, put_aligned, video_puts, puts_at, video_count}
 use Rattle.model.specs.Laws.Places.{Lies}
-use Rattle.model.specs.declared.Lengths.{Lengths}
 use Rattle.model.specs.declared.Target.{Target}
-use Rattle.model.specs.declared.Target.TheVariants.{Unused, SystemRom, GamePakRom, Plain, Video, Sram}
+use Rattle.model.specs.declared.Target.TheVariants.{Plain, Video, Sram}
 use Rattle.model.specs.declared.VideoMemory.{VideoMemory}
 use Rattle.model.proofs.Laws.Choice.{choose, either}
-use Rattle.model.proofs.Laws.Stores.{put_bytes_one}
 use Rattle.model.specs.declared.AccessSize.{AccessSize}
 use Rattle.model.specs.declared.AccessSize.TheVariants.{Byte, Half, Word}
 use Rattle.model.specs.declared.Part.{Part}
-use Rattle.stores.specs.Stored.{Filled, StoredVideo, StoredAt}
+use Rattle.stores.specs.Stored.{Filled, StoredVideo}
 use Rattle.parts.proofs.LentPart.{back, lent_of, put_moves, aligned_moves, video_moves, lent_stores}
 use Rattle.parts.specs.Stored.{store_report, Stores, whole, drops, same_puts, counting}
 use Rattle.parts.specs.declared.Stored.{Stored}
@@ -108,10 +106,6 @@ unwrapped_fills mode i {x = Some t} p e = within_fills mode i p e refl
 unwrapped_fills mode i {x = None} p e = outside_drops mode i p e refl
 
 -- ---- the bytes of each size
-
--- a byte is aligned at every place
-pub byte_aligned : (p : Part) (i v : ℕ) → put p i (v % 256) ≡ put_aligned p i 1 v
-byte_aligned p i v = let at : lowered 1 i ≡ i = omega arith in rw at (sym (put_bytes_one p i v))
 
 -- a byte store to video memory, from what its place is called
 pub byte_video : (p : Part) (i v : ℕ) {f g : Bool} {before after : List ℕ} {r : Stored}
