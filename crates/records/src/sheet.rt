@@ -192,12 +192,12 @@ pub fn least_faulty(sheet: &[u8], n: usize) -> usize
         if (r.kind > last) | (r.size > 4) {
             return k;
         }
-        let row = kinds[r.kind as usize];
-        let fits = ((row[0] >> r.size as u32) % 2 == 1)
-            & (u16::from_le_bytes([r.flag, r.zero_byte]) as u32 <= row[1])
-            & (r.address <= row[2])
-            & (r.value <= row[3])
-            & (row[4] <= r.value);
+        let [sizes, flag, address, value, least] = kinds[r.kind as usize];
+        let fits = ((sizes >> r.size as u32) % 2 == 1)
+            & (u16::from_le_bytes([r.flag, r.zero_byte]) as u32 <= flag)
+            & (r.address <= address)
+            & (r.value <= value)
+            & (least <= r.value);
         if !fits {
             return k;
         }
