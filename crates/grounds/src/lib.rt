@@ -21,8 +21,9 @@ pub mod names;
 
 // ---- the beats of a step, of which there are at most two
 
-// The bytes of the first and the second, 0 for none. A `Ground` and an `Option<Ground>` in their place, with a match on the region
-// for the digits below, took 1.41 of a run on INSTRUCTION in place of 1.27, and 1.37 on READ and WRITE in place of 1.21.
+// The bytes of the first and the second, 0 for none. A `Ground` and an `Option<Ground>` in their place, with a match on the
+// region in place of the digits below, took 1.41 of a run on INSTRUCTION instead of 1.27, and 1.37 on READ and WRITE instead of
+// 1.21.
 #[derive(Clone, Copy)]
 struct Beats {
     first: u8,
