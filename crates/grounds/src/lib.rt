@@ -21,7 +21,9 @@ pub mod names;
 
 // ---- the beats of a step, of which there are at most two
 
-// The bytes of the first and the second, 0 for none.
+// The bytes of the first and the second, 0 for none. A `Ground` and an `Option<Ground>` in their place, with a match on the
+// region in place of the digits below, took 1.41 of a run on INSTRUCTION instead of 1.27, and 1.37 on READ and WRITE instead of
+// 1.21.
 #[derive(Clone, Copy)]
 struct Beats {
     first: u8,
@@ -341,13 +343,12 @@ pub fn put_grounds(sheet: &[u8], n: usize, clock: Clock, answers: &[u8], grounds
         let before = before_step(clock, answers, k);
         let step = step_of(record_at(sheet, version, k));
         let at = GROUNDS_LENGTH * k;
-        let behind = tell(
+        trail = tell(
             &mut grounds[at..at + GROUNDS_LENGTH],
             trail,
             before,
             step,
             answers[ANSWER_LENGTH * k + 8],
         );
-        trail = behind;
     }
 }
