@@ -235,7 +235,7 @@ fn data_beats(next: u64, size: AccessSize, addr: u32) -> Beats
 fn data_next(size: AccessSize, addr: u32) -> u64
     ensures { result ≡ trails.data_next size addr }
 {
-    std::num::wrapping_add_u32(waits::aligned(size, addr), waits::shifted_bytes(size)) as u64
+    std::num::wrapping_add_u32(waits::aligned(size, addr), waits::size_bytes(size)) as u64
 }
 
 // ---- a step

@@ -90,10 +90,7 @@ fn isa_state(size: u8) -> IsaState
 pub fn words_of(value: u32) -> u32
     ensures { result ≡ def.words_of value }
 {
-    if value == 0 {
-        return 1;
-    }
-    if value < MAX_WORDS { value } else { MAX_WORDS }
+    value.clamp(1, MAX_WORDS)
 }
 
 // The step of a record. Few tests stand in a row, so that the compiler makes no table of jumps of them: kinds follow each
@@ -107,8 +104,13 @@ pub fn step_of(r: SheetRecord) -> Step
         return Step::Idle(r.value);
     }
     if kind == 7 {
-        let version = r.version;
-        return Step::Instruction(version, isa_state(r.size), r.address, r.value, r.flag == 1);
+        return Step::Instruction(
+            r.version,
+            isa_state(r.size),
+            r.address,
+            r.value,
+            r.flag == 1,
+        );
     }
     if kind <= 2 {
         if kind == 1 {

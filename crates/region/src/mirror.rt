@@ -86,9 +86,5 @@ pub fn io_offset(addr: u32) -> Option<usize>
 pub fn bios_offset(addr: u32) -> Option<usize>
     ensures { result ≡ mirrored.bios_offset addr }
 {
-    if addr < 0x4000 {
-        Some(addr as usize)
-    } else {
-        None
-    }
+    (addr < 0x4000).then_some(addr as usize)
 }

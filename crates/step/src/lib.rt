@@ -78,7 +78,7 @@ fn data_price(
 fn accessed(clock: Clock, size: AccessSize, addr: u32) -> Clock
     ensures { result ≡ steps.with_previous clock (previously addr (size_bytes_of size)) }
 {
-    let bytes = waits::shifted_bytes(size);
+    let bytes = waits::size_bytes(size);
     Clock {
         previous: Previous { addr, size: bytes },
         ..clock

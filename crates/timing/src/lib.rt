@@ -123,15 +123,12 @@ fn price_fetch(
 pub fn price_insn(input: TimingInput, waits: [[u8; 2]; 3], prefetch: PrefetchBuffer) -> InsnCycles
     ensures { result ≡ def.price_insn input waits prefetch }
 {
-    let isa = input.isa;
-    let version = input.version;
-    let had_i = had_internal(version, isa, input.opcode_raw);
+    let had_i = had_internal(input.version, input.isa, input.opcode_raw);
     let fetch_kind = waits::nonseq_if(input.force_fetch_n);
-    let fetch = price_fetch(input.code_addr, fetch_kind, isa, waits, prefetch);
-    let code_in_rom = waits::in_window(input.code_addr);
+    let fetch = price_fetch(input.code_addr, fetch_kind, input.isa, waits, prefetch);
     let latch_disable_bug = disable_bug::force_next_fetch_nonseq(DisableBugInput {
         prefetch_enabled: input.prefetch_enabled,
-        code_in_rom,
+        code_in_rom: waits::in_window(input.code_addr),
         had_internal_cycles: had_i,
         pc_changed: input.pc_changed,
     });

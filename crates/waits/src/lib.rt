@@ -84,15 +84,12 @@ pub fn in_window(addr: u32) -> bool
     window_from_addr(addr).is_some()
 }
 
-// `AccessSize::bytes`.
+// `AccessSize::bytes`, by a shift, since the sizes are counted from 0: every data access needs them, and a choice of three would
+// be a branch that no one foretells. Of a shifted 1 the compiler knows, too, that a remainder by it is a mask.
 pub fn size_bytes(size: AccessSize) -> u32
     ensures { result ≡ def.size_bytes_of size }
 {
-    match size {
-        AccessSize::Byte => 1,
-        AccessSize::Half => 2,
-        AccessSize::Word => 4,
-    }
+    1u32 << size as u32
 }
 
 // Back from the bytes, where they are 1, 2 or 4.
@@ -107,30 +104,12 @@ pub fn access_size(bytes: u32) -> AccessSize
     }
 }
 
-// The power of two that a size has.
-fn size_log2(size: AccessSize) -> u32
-    ensures { result ≡ def.size_log2 size }
-{
-    match size {
-        AccessSize::Byte => 0,
-        AccessSize::Half => 1,
-        AccessSize::Word => 2,
-    }
-}
-
-// The bytes by a shift: where every data access needs them, a choice of three would be a branch that no one foretells.
-pub fn shifted_bytes(size: AccessSize) -> u32
-    ensures { result ≡ def.size_bytes_of size }
-{
-    1u32 << size_log2(size)
-}
-
 // An address lowered to a multiple of a size.
 #[tactic(auto, unfolding(model::specs::Wait::aligned))]
 pub fn aligned(size: AccessSize, addr: u32) -> u32
     ensures { result ≡ def.aligned size addr }
 {
-    addr - addr % shifted_bytes(size)
+    addr - addr % size_bytes(size)
 }
 
 // An access takes one cycle and its waits.
@@ -180,34 +159,11 @@ pub fn classify_access(
     AccessKind::Nonseq
 }
 
-// A window's row in the waits of the ROM.
-fn window_index(window: RomWindow) -> usize
-    ensures { result ≡ def.window_index window }
-{
-    match window {
-        RomWindow::Ws0 => 0,
-        RomWindow::Ws1 => 1,
-        RomWindow::Ws2 => 2,
-    }
-}
-
-// A kind's column in the waits of the ROM.
-fn kind_index(kind: AccessKind) -> usize
-    ensures { result ≡ def.kind_index kind }
-{
-    match kind {
-        AccessKind::Nonseq => 0,
-        AccessKind::Seq => 1,
-    }
-}
-
 // The waits of one halfword from ROM.
 pub fn rom_half_waits(waits: [[u8; 2]; 3], window: RomWindow, kind: AccessKind) -> u8
     ensures { result ≡ def.rom_half_waits waits window kind }
 {
-    let row = window_index(window);
-    let column = kind_index(kind);
-    waits[row][column]
+    waits[window as usize][kind as usize]
 }
 
 // One halfword from ROM.

@@ -58,6 +58,7 @@ impl WaitCnt {
     }
 
     // A write keeps bits 0 to 12 and 14 of the value, clears 13 and leaves 15.
+    #[tactic(auto, unfolding(model::specs::Waitcnt::written))]
     pub fn write(self, value: u16) -> WaitCnt
         ensures { result.raw ≡ def.written self.raw value }
     {
@@ -77,11 +78,8 @@ impl WaitCnt {
     pub fn set_cart_type_cgb(self, cgb: bool) -> WaitCnt
         ensures { result.raw ≡ def.set_cart_type_cgb cgb self.raw }
     {
-        let low = self.raw % 0x8000;
-        if cgb {
-            WaitCnt { raw: low + 0x8000 }
-        } else {
-            WaitCnt { raw: low }
+        WaitCnt {
+            raw: self.raw % 0x8000 + cgb as u16 * 0x8000,
         }
     }
 
@@ -97,11 +95,8 @@ impl WaitCnt {
     pub fn set_prefetch_enable(self, enable: bool) -> WaitCnt
         ensures { result.raw ≡ def.set_prefetch_enable enable self.raw }
     {
-        let rest = self.raw % 0x4000 + self.raw / 0x8000 % 2 * 0x8000;
-        if enable {
-            WaitCnt { raw: rest + 0x4000 }
-        } else {
-            WaitCnt { raw: rest }
+        WaitCnt {
+            raw: self.raw % 0x4000 + self.raw / 0x8000 % 2 * 0x8000 + enable as u16 * 0x4000,
         }
     }
 
