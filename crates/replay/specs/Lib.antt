@@ -2,3 +2,4 @@
 pub mod Pattern
 pub mod Head
 pub mod Buffers
+pub mod Ran

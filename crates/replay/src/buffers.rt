@@ -1,6 +1,13 @@
 // What a case lends to the library: each buffer is as long as the head says.
 ghost use Rattle.std.specs.Prelude.{◌≡◌, IfOk};
+ghost use Rattle.model.specs.Outcome.{outcome};
+ghost use Rattle.model.specs.Tariff.{bill};
+ghost use Rattle.model.specs.Preview as model;
+ghost use Rattle.model.specs.Grounds.{explain};
+ghost use Rattle.bts.specs.Reported.{reported, reported_bill, reported_preview};
+ghost use Rattle.bts.specs.Explained.{reported_grounds};
 ghost use Rattle.replay.specs.Buffers.{IsSetUp};
+ghost use Rattle.replay.specs.Ran as given;
 
 use crate::head::{Head, Operation};
 use crate::pattern;
@@ -53,7 +60,10 @@ impl Buffers {
         })
     }
 
-    fn run_plain(&mut self, x: Lengths) -> Bill {
+    fn run_plain(&mut self, x: Lengths) -> Bill
+        ensures { reported (given.uncharged result) self.new.board.items self.new.store.items self.new.answers.items
+            ≡ outcome (given.lent_by x self.old) }
+    {
         uncharged(bts::bts_run(
             &self.sheet,
             &mut self.board,
@@ -71,7 +81,11 @@ impl Buffers {
         ))
     }
 
-    fn run_tariff(&mut self, x: Lengths, rate: u32) -> Bill {
+    fn run_tariff(&mut self, x: Lengths, rate: u32) -> Bill
+        ensures { reported_bill result self.new.board.items self.new.store.items self.new.answers.items
+            self.new.second.items
+            ≡ bill (record { run = given.lent_by x self.old; shares = self.old.second.items; rate = rate }) }
+    {
         bts::bts_run_tariff(
             &self.sheet,
             &mut self.board,
@@ -91,7 +105,11 @@ impl Buffers {
         )
     }
 
-    fn run_grounds(&mut self, x: Lengths) -> Bill {
+    fn run_grounds(&mut self, x: Lengths) -> Bill
+        ensures { reported_grounds (given.uncharged result) self.new.board.items self.new.store.items
+            self.new.answers.items self.new.second.items
+            ≡ explain (record { run = given.lent_by x self.old; grounds = self.old.second.items }) }
+    {
         uncharged(bts::bts_run_grounds(
             &self.sheet,
             &mut self.board,
@@ -110,12 +128,22 @@ impl Buffers {
         ))
     }
 
-    fn preview(&mut self) -> Bill {
+    fn preview(&mut self) -> Bill
+        ensures { reported_preview (given.uncharged result) self.new.sheet.items self.new.board.items
+            self.new.answers.items
+            ≡ model.preview (record {
+              sheet = self.old.sheet.items;
+              board = self.old.board.items;
+              answers = self.old.answers.items;
+            }) }
+    {
         uncharged(bts::bts_preview(&self.sheet, &self.board, &mut self.answers))
     }
 
     // Does what the case asks.
-    pub fn run(&mut self, head: Head) -> Bill {
+    pub fn run(&mut self, head: Head) -> Bill
+        ensures { given.RanAs head.asked.operation head self.old result self.new }
+    {
         let lengths = head.memories;
         match head.asked.operation {
             Operation::Run => self.run_plain(lengths),
