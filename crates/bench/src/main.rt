@@ -81,7 +81,7 @@ const MEMORIES: Lengths = Lengths {
     sram: 8192,
 };
 
-// Writes the figures, or the refusal.
+// Writes the figures, or the refusal. Without a heap the buffers are as long as the longest sheet needs.
 fn run_sheet<R: Print + Eprint>(rt: &R, sheet: &[u8]) -> io::Result<()> {
     let mut board = board::fresh();
     let mut store = [0u8; 61444];
@@ -111,7 +111,8 @@ fn run_sheet<R: Print + Eprint>(rt: &R, sheet: &[u8]) -> io::Result<()> {
     print_total(rt, report.total)
 }
 
-// Reads until the buffer is full or the input has ended, and answers how many bytes it put there.
+// Reads until the buffer is full or the input has ended, and answers how many bytes it put there. `read_exact` tells no count
+// where the input ends early, and `read_to_end` needs a heap, which this program has none of.
 fn read_full<R: Read>(input: &mut R, buffer: &mut [u8]) -> io::Result<usize>
     ensures { IfOk result (λ n. n ≤ length buffer.new) }
 {

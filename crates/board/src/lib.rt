@@ -173,7 +173,7 @@ fn put_flags(out: &mut [u8], clock: Clock)
     out[7] = 0;
 }
 
-// Bytes 0 to 19: the flags, and three words.
+// Bytes 0 to 19: the flags, and three words. The parts of a board are slices: made arrays of, each would be one at its one call.
 fn put_clock(out: &mut [u8], clock: Clock)
     requires { length out.old ≡ 20 }
     ensures { out.new ≡ encoded (def.clock_fields clock) }
@@ -190,6 +190,7 @@ fn put_halves(out: &mut [u8], halves: [u16; 8])
     requires { length out.old ≡ 16 }
     ensures { out.new ≡ encoded (map (field 2) halves) }
 {
+    // by number: std's zipped chunks promise nothing of what is written in them
     for i in 0..8 {
         let at = 2 * i;
         put16(&mut out[at..at + 2], halves[i]);

@@ -9,7 +9,7 @@ use Rattle.model.specs.Step.{Media, State, changed, answer}
 use Rattle.model.specs.Sheet.{record_at, record_count, step_of, steps_of, last_kind, size_fits, kind_fault}
 use Rattle.model.specs.Sheet.{field_fault, faulty}
 use Rattle.model.specs.BoardBytes.{clock_of}
-use Rattle.model.specs.Outcome.{LentBytes, media_of, first_state, verdict}
+use Rattle.model.specs.Outcome.{LentBytes, media_of, first_state, verdict, refusal_number, refusal_index}
 use Rattle.model.specs.Outcome.{outcome_by}
 use Rattle.model.specs.Alike.{state_at, answer_at, ReadBack}
 use Rattle.model.specs.Grounds.{grounds_length, grounds_bytes, grounds_after, Explaining, Explained, grounds_verdict, run_grounds}
@@ -32,18 +32,21 @@ use Rattle.model.specs.declared.Step.{Step}
 use Rattle.model.specs.declared.Refusal.{Refusal}
 use Rattle.model.specs.Verdict.{Accepted, Refused}
 use Rattle.bts.specs.declared.Report.{Report}
-use Rattle.bts.specs.Told.{report_of_refusal}
-use Rattle.bts.specs.Reported.{reported, outcome_is, no_refusal, all_records, answers_long}
+use Rattle.bts.specs.Reported.{reported, outcome_is, no_refusal, all_records, answers_long, refused_by}
 
 -- a report, with what stands in the lent buffers then
 abbrev pub reported_grounds : Report → List ℕ → List ℕ → List ℕ → List ℕ → Explained
 reported_grounds r board store answers grounds = record { run = reported r board store answers; grounds = grounds }
 
--- the report of a refusal, with the buffers as they were lent, is the refused one
-pub refused_explained : (e : Explaining) (q : Refusal) → grounds_verdict e ≡ Refused q
-    → reported_grounds (report_of_refusal q) e.run.board e.run.store e.run.answers e.grounds ≡ explain e
+-- a report of a refusal, with the buffers as they were lent, is the refused one
+pub refused_explained : (e : Explaining) (q : Refusal) (r : Report) → grounds_verdict e ≡ Refused q
+    → r.number ≡ refusal_number q → r.index ≡ refusal_index q → r.total ≡ 0
+    → reported_grounds r e.run.board e.run.store e.run.answers e.grounds ≡ explain e
 unfolding explain
-refused_explained e q v = sym (ap (explain_by e) v)
+refused_explained e q r v n k z = same ∙ sym (ap (explain_by e) v)
+  where
+    same : reported_grounds r e.run.board e.run.store e.run.answers e.grounds ≡ explain_by e (Refused q)
+    same x = record { run = refused_by e.run q r n k z x; grounds = e.grounds }
 
 -- ---- what the answers of a run tell
 
@@ -120,21 +123,18 @@ module _ (e : Explaining) (yes : grounds_verdict e ≡ Accepted) where
           shown = λ k h. shown k (omega (arith, records_here));
         })
 
-    -- with the grounds told it is the explained run
+    -- with the grounds told it is the accepted one
     pub explained_from : {c : Clock} {told : List ℕ} → c ≡ clock_of e.run.board
         → told
         ≡ grounds_bytes (grounds_after c (steps_to e.run.sheet r.index)) ++ drop (grounds_length * r.index) e.grounds
-        → reported_grounds r board store answers told ≡ explain e
-    unfolding explain run_grounds
-    explained_from {c} {told} q w = same ∙ sym (ap (explain_by e) yes)
-      where
-        same : reported_grounds r board store answers told ≡ explain_by e Accepted
-        same x =
-            record {
-              run = ran_is x;
-              grounds =
-                  (w
-                  ∙ ap₂ (λ (d : Clock) (n : ℕ).
-                  grounds_bytes (grounds_after d (steps_to e.run.sheet n)) ++ drop (grounds_length * n) e.grounds) q
-                  records_here) x;
-            }
+        → reported_grounds r board store answers told ≡ explain_by e Accepted
+    unfolding run_grounds
+    explained_from {c} {told} q w x =
+        record {
+          run = ran_is x;
+          grounds =
+              (w
+              ∙ ap₂ (λ (d : Clock) (n : ℕ).
+              grounds_bytes (grounds_after d (steps_to e.run.sheet n)) ++ drop (grounds_length * n) e.grounds) q
+              records_here) x;
+        }

@@ -3,10 +3,10 @@ use Rattle.std.specs.Prelude.{◌≡◌, refl, List, ◌++◌, ℕ, ◌*◌, ◌
 use Rattle.std.proofs.Math.Path.{sym}
 use Rattle.std.proofs.Common.{ap, ap₂, ◌∙◌, append-nil, arith, length-append, take_all}
 use Rattle.model.specs.Base.{sum}
-use Rattle.model.specs.Step.{State, cycles_of}
+use Rattle.model.specs.Step.{Media, State, cycles_of}
 use Rattle.model.specs.Sheet.{record_count, records_from}
 use Rattle.model.specs.BoardBytes.{board_length, answer_length, clock_of, halves_from, contents_of, board_bytes, answers_bytes}
-use Rattle.model.specs.Outcome.{Lent, LentBytes, Outcome, media_of, first_state, ran, verdict}
+use Rattle.model.specs.Outcome.{Lent, LentBytes, Outcome, media_of, first_state, ran, verdict, refusal_number, refusal_index}
 use Rattle.model.specs.Outcome.{outcome_by, outcome}
 use Rattle.model.specs.Alike.{cycles_from}
 use Rattle.model.specs.Tariff.{charge, shares_in, Tariffed, Billed, tariff_verdict, bill_by, bill}
@@ -18,10 +18,10 @@ use Rattle.model.specs.Laws.Billed.{TariffAcceptable}
 use Rattle.model.proofs.Laws.Billed.{tariff_accepted}
 use Rattle.model.proofs.Laws.Previewed.{bare_verdict, preview_total}
 use Rattle.step.specs.Begun.{state_from}
+use Rattle.examine.specs.Lent.{lending}
 use Rattle.examine.specs.Verdicts.{Ready, ready}
 use Rattle.tariff.specs.Shares.{Payable, Billable}
 use Rattle.preview.specs.Values.{clock_valued, Answered, preview_from}
-use Rattle.bts.specs.Told.{report_of_refusal, bill_for, bill_of_refusal}
 use Rattle.bts.specs.Beginning.{Beginning, Ends, answers_size}
 use Rattle.model.specs.declared.Answer.{Answer}
 use Rattle.model.specs.declared.Clock.{Clock}
@@ -36,6 +36,10 @@ use Rattle.bts.specs.declared.run.Done.{Done}
 abbrev pub reported : Report → List ℕ → List ℕ → List ℕ → Outcome
 reported r board store answers =
     record { number = r.number; index = r.index; total = r.total; board = board; store = store; answers = answers }
+
+-- all that a run is lent, of which the media travel together
+abbrev pub lent_by : List ℕ → List ℕ → List ℕ → Media → List ℕ → Lent
+lent_by sheet board store m answers = lending sheet board store m.bios m.rom answers m.lengths
 
 -- the beginning that is the whole sheet, with its board written, is the accepted outcome
 accepted : (i : Lent) (s : State) (r : Report) (board answers : List ℕ)
@@ -80,11 +84,17 @@ answers_long i ran_is =
       answers_count i,
     )
 
--- the report of a refusal, with the buffers as they were lent, is the refused outcome
-pub refused_from : (i : Lent) (q : Refusal) → verdict i ≡ Refused q
-    → reported (report_of_refusal q) i.board i.store i.answers ≡ outcome i
+-- a report of a refusal, with the buffers as they were lent, is the refused outcome
+pub refused_by : (i : Lent) (q : Refusal) (r : Report) → r.number ≡ refusal_number q → r.index ≡ refusal_index q → r.total ≡ 0
+    → reported r i.board i.store i.answers ≡ outcome_by i (Refused q)
+refused_by i q r n k t x =
+    record { number = n x; index = k x; total = t x; board = i.board; store = i.store; answers = i.answers }
+
+pub refused_from : (i : Lent) (q : Refusal) (r : Report) → verdict i ≡ Refused q
+    → r.number ≡ refusal_number q → r.index ≡ refusal_index q → r.total ≡ 0
+    → reported r i.board i.store i.answers ≡ outcome i
 unfolding outcome
-refused_from i q e = sym (ap (outcome_by i) e)
+refused_from i q r e n k t = refused_by i q r n k t ∙ sym (ap (outcome_by i) e)
 
 -- ---- under a tariff
 
@@ -98,10 +108,14 @@ reported_bill r board store answers shares =
     record { run = reported (report_of r) board store answers; charge = r.charge; shares = shares }
 
 -- a refusal's bill, with the buffers as they were lent, is the refused one
-pub refused_bill : (t : Tariffed) (q : Refusal) → tariff_verdict t ≡ Refused q
-    → reported_bill (bill_of_refusal q) t.run.board t.run.store t.run.answers t.shares ≡ bill t
+pub refused_bill : (t : Tariffed) (q : Refusal) (r : Bill) → tariff_verdict t ≡ Refused q
+    → r.number ≡ refusal_number q → r.index ≡ refusal_index q → r.total ≡ 0 → r.charge ≡ 0
+    → reported_bill r t.run.board t.run.store t.run.answers t.shares ≡ bill t
 unfolding bill
-refused_bill t q e = sym (ap (bill_by t) e)
+refused_bill t q r e n k z c = same ∙ sym (ap (bill_by t) e)
+  where
+    same : reported_bill r t.run.board t.run.store t.run.answers t.shares ≡ bill_by t (Refused q)
+    same x = record { run = refused_by t.run q (report_of r) n k z x; charge = c x; shares = t.shares }
 
 -- an accepted run, of which `r` was reported
 module _ (i : Lent) (yes : verdict i ≡ Accepted) {r : Report} {board store answers : List ℕ}
@@ -160,21 +174,17 @@ module _ (t : Tariffed) (yes : tariff_verdict t ≡ Accepted) where
             payable = payable;
           }
 
-      -- with the shares and the charge it is the bill
-      pub billed_from : {b : Bill} {cents : ℕ} {written : List ℕ} → b ≡ bill_for r cents → cents ≡ charge t.rate r.total
+      -- with the shares and the charge it is the accepted bill
+      pub billed_from : {cents : ℕ} {written : List ℕ} → cents ≡ charge t.rate r.total
           → written ≡ shares_in t.shares t.rate (cycles_from answers 0 r.index) r.index
-          → reported_bill b board store answers written ≡ bill t
-      unfolding bill
-      billed_from {b} {cents} {written} f e w =
-          ap (λ (x : Bill). reported_bill x board store answers written) f ∙ same ∙ sym (ap (bill_by t) yes)
-        where
-          same : reported_bill (bill_for r cents) board store answers written ≡ bill_by t Accepted
-          same x =
-              record {
-                run = ran_is x;
-                charge = (e ∙ ap (λ (o : Outcome). charge t.rate o.total) ran_is) x;
-                shares = (w ∙ ap₂ (shares_in t.shares t.rate) cycles_are records_here) x;
-              }
+          → reported_bill (record { number = r.number; index = r.index; total = r.total; charge = cents }) board store answers
+          written ≡ bill_by t Accepted
+      billed_from e w x =
+          record {
+            run = ran_is x;
+            charge = (e ∙ ap (λ (o : Outcome). charge t.rate o.total) ran_is) x;
+            shares = (w ∙ ap₂ (shares_in t.shares t.rate) cycles_are records_here) x;
+          }
 
 -- ---- a preview
 
@@ -183,11 +193,16 @@ abbrev pub reported_preview : Report → List ℕ → List ℕ → List ℕ → 
 reported_preview r sheet board answers =
     record { number = r.number; index = r.index; total = r.total; sheet = sheet; board = board; answers = answers }
 
--- the report of a refusal, with the buffers as they were lent, is the refused preview
-pub refused_preview : (q : Asked) (r : Refusal) → preview_verdict q ≡ Refused r
-    → reported_preview (report_of_refusal r) q.sheet q.board q.answers ≡ preview q
+-- a report of a refusal, with the buffers as they were lent, is the refused preview
+pub refused_preview : (q : Asked) (r : Refusal) (t : Report) → preview_verdict q ≡ Refused r
+    → t.number ≡ refusal_number r → t.index ≡ refusal_index r → t.total ≡ 0
+    → reported_preview t q.sheet q.board q.answers ≡ preview q
 unfolding preview
-refused_preview q r e = sym (ap (preview_by q) e)
+refused_preview q r t e n k z = same ∙ sym (ap (preview_by q) e)
+  where
+    same : reported_preview t q.sheet q.board q.answers ≡ preview_by q (Refused r)
+    same x =
+        record { number = n x; index = k x; total = z x; sheet = q.sheet; board = q.board; answers = q.answers }
 
 -- a board is copied over as many zeros
 pub copied : (b : List ℕ) (n : ℕ) → n ≡ length b → length b ≡ board_length → take n b ++ drop n (replicate board_length 0) ≡ b
@@ -220,23 +235,19 @@ module _ (q : Asked) (yes : preview_verdict q ≡ Accepted) where
           room = omega (arith, all_answered, answers_long bare ran_is);
         }
 
-    -- with their values told it is the preview
+    -- with their values told it is the accepted preview
     pub previewed_from : {told : List ℕ} → told ≡ each_answer clock_valued (records_from q.sheet 0 r.index) answers
-        → reported_preview r q.sheet q.board told ≡ preview q
-    unfolding preview
-    previewed_from {told} w = same ∙ sym (ap (preview_by q) yes)
-      where
-        same : reported_preview r q.sheet q.board told ≡ preview_by q Accepted
-        same x =
-            record {
-              number = ap (λ (o : Outcome). o.number) ran_is x;
-              index = all_answered x;
-              total = (ap (λ (o : Outcome). o.total) ran_is ∙ preview_total q no_memories) x;
-              sheet = q.sheet;
-              board = q.board;
-              answers =
-                  (w
-                  ∙ ap₂ (λ (n : ℕ) (l : List ℕ). each_answer clock_valued (records_from q.sheet 0 n) l) all_answered
-                  (ap (λ (o : Outcome). o.answers) ran_is)
-                  ∙ preview_from q (drop (answer_length * record_count q.sheet) q.answers)) x;
-            }
+        → reported_preview r q.sheet q.board told ≡ preview_by q Accepted
+    previewed_from w x =
+        record {
+          number = ap (λ (o : Outcome). o.number) ran_is x;
+          index = all_answered x;
+          total = (ap (λ (o : Outcome). o.total) ran_is ∙ preview_total q no_memories) x;
+          sheet = q.sheet;
+          board = q.board;
+          answers =
+              (w
+              ∙ ap₂ (λ (n : ℕ) (l : List ℕ). each_answer clock_valued (records_from q.sheet 0 n) l) all_answered
+              (ap (λ (o : Outcome). o.answers) ran_is)
+              ∙ preview_from q (drop (answer_length * record_count q.sheet) q.answers)) x;
+        }

@@ -13,7 +13,7 @@ ghost use Rattle.model.specs.Preview.{preview};
 ghost use Rattle.model.specs.Grounds.{explain};
 ghost use Rattle.examine.specs.Lent.{lending, tariffing, asking, explaining};
 ghost use Rattle.bts.specs.Told.{told, bill_for, report_of_refusal, bill_of_refusal};
-ghost use Rattle.bts.specs.Reported.{reported, reported_bill, reported_preview};
+ghost use Rattle.bts.specs.Reported.{lent_by, reported, reported_bill, reported_preview};
 ghost use Rattle.bts.specs.Explained.{reported_grounds};
 
 use examine::Lent;
@@ -22,7 +22,8 @@ use model::{BOARD_LENGTH, Lengths, Refusal};
 use records::sheet;
 use step::machine::Machine;
 
-// What a run gives back: 0, the number of records and the total; or the refusal's number and index, and 0.
+// What a run gives back: 0, the number of records and the total; or the refusal's number and index, and 0. It is C's layout, so
+// that a number stands for the refusal.
 #[repr(C)]
 #[derive(Clone, Copy)]
 pub struct Report {
@@ -43,7 +44,7 @@ pub struct Bill {
 
 impl Report {
     // The bill of a run that costs so much.
-    fn billed(self, charge: u64) -> Bill
+    pub fn billed(self, charge: u64) -> Bill
         ensures { result ≡ bill_for self charge }
     {
         Bill {
@@ -62,7 +63,8 @@ impl From<Refusal> for Report {
     fn from(refusal: Refusal) -> Report {
         Report {
             number: examine::refusal_number(refusal),
-            index: examine::refusal_index(refusal),
+            // The low 32 bits, since a `Refusal` may hold any index; a refused call's fits: a sheet has at most 4,096 records.
+            index: (examine::refusal_index(refusal) & 0xFFFF_FFFF) as u32,
             total: 0,
         }
     }
@@ -82,15 +84,12 @@ fn run_accepted(
     sheet: &[u8],
     board: &mut [u8],
     store: &mut [u8],
-    bios: &[u8],
-    rom: &[u8],
+    media: &Media<'_>,
     answers: &mut [u8],
-    lengths: Lengths,
 ) -> Report
-    requires { verdict (lending sheet.now board.old store.old bios.now rom.now answers.old lengths) ≡ Accepted }
+    requires { verdict (lent_by sheet.now board.old store.old media.now answers.old) ≡ Accepted }
     ensures { reported result board.new store.new answers.new
-        ≡ outcome_by (lending sheet.now board.old store.old bios.now
-        rom.now answers.old lengths) Accepted }
+        ≡ outcome_by (lent_by sheet.now board.old store.old media.now answers.old) Accepted }
 {
     let n = sheet::record_count(sheet);
     let board = board.as_mut_array().unwrap();
@@ -99,8 +98,7 @@ fn run_accepted(
         contents: board::load_contents(board),
     };
     let mut halves = board::load_halves(board);
-    let media = Media { bios, rom, lengths };
-    let done = run::run_core(sheet, n, machine, &mut halves, store, &media, answers);
+    let done = run::run_core(sheet, n, machine, &mut halves, store, media, answers);
     let left = done.machine;
     board::put_board(board, left.clock, halves, left.contents);
     Report {
@@ -110,31 +108,31 @@ fn run_accepted(
     }
 }
 
-// Runs a sheet, if the examination accepts what is lent.
-#[tactic(auto, unfolding(model::specs::Outcome::outcome))]
+// Runs a sheet, if the examination accepts what is lent. Each operation writes out its `Lent`: tried, a function that makes it
+// for the three calls for one lifetime of what is lent to them and what they lend on, which the borrow checker doesn't cover. And
+// the exported functions write out the `Lengths`: a function would take the same seven, by their places and not by their names.
+#[tactic(auto, using(examine::specs::Verdicts::index_small), unfolding(model::specs::Outcome::outcome))]
 fn run_examined(
     sheet: &[u8],
     board: &mut [u8],
     store: &mut [u8],
-    bios: &[u8],
-    rom: &[u8],
+    media: &Media<'_>,
     answers: &mut [u8],
-    lengths: Lengths,
 ) -> Result<Report, Refusal>
     ensures { reported (told report_of_refusal result) board.new store.new answers.new
-        ≡ outcome (lending sheet.now board.old store.old bios.now rom.now answers.old lengths) }
+        ≡ outcome (lent_by sheet.now board.old store.old media.now answers.old) }
 {
     let lent = Lent {
         sheet,
         board,
         store,
-        bios,
-        rom,
+        bios: media.bios,
+        rom: media.rom,
         answers,
-        lengths,
+        lengths: media.lengths,
     };
     lent.examine()?;
-    Ok(run_accepted(sheet, board, store, bios, rom, answers, lengths))
+    Ok(run_accepted(sheet, board, store, media, answers))
 }
 
 pub fn bts_run(
@@ -166,37 +164,36 @@ pub fn bts_run(
         oam,
         sram,
     };
-    run_examined(sheet, board, store, bios, rom, answers, lengths).unwrap_or_else(Report::from)
+    let media = Media { bios, rom, lengths };
+    run_examined(sheet, board, store, &media, answers).unwrap_or_else(Report::from)
 }
 
 // The same under a tariff: the run, and then the shares of its steps, from the cycles that stand in the answers.
-#[tactic(auto, unfolding(model::specs::Tariff::bill))]
+// What is written comes apart, here as there.
+#[tactic(auto, using(examine::specs::Verdicts::tariff_index_small), unfolding(model::specs::Tariff::bill))]
 fn bill_examined(
     sheet: &[u8],
     board: &mut [u8],
     store: &mut [u8],
-    bios: &[u8],
-    rom: &[u8],
+    media: &Media<'_>,
     answers: &mut [u8],
     shares: &mut [u8],
-    lengths: Lengths,
     rate: u32,
 ) -> Result<Bill, Refusal>
     ensures { reported_bill (told bill_of_refusal result) board.new store.new answers.new shares.new
-        ≡ bill (tariffing (lending sheet.now board.old store.old bios.now
-        rom.now answers.old lengths) shares.old rate) }
+        ≡ bill (tariffing (lent_by sheet.now board.old store.old media.now answers.old) shares.old rate) }
 {
     let lent = Lent {
         sheet,
         board,
         store,
-        bios,
-        rom,
+        bios: media.bios,
+        rom: media.rom,
         answers,
-        lengths,
+        lengths: media.lengths,
     };
     lent.examine_tariff(shares, rate)?;
-    let report = run_accepted(sheet, board, store, bios, rom, answers, lengths);
+    let report = run_accepted(sheet, board, store, media, answers);
     tariff::put_shares(answers, report.index as usize, report.total, rate, shares);
     Ok(report.billed(tariff::charge(report.total, rate)))
 }
@@ -233,41 +230,36 @@ pub fn bts_run_tariff(
         oam,
         sram,
     };
-    bill_examined(
-        sheet, board, store, bios, rom, answers, shares, lengths, rate,
-    )
-    .unwrap_or_else(Bill::from)
+    let media = Media { bios, rom, lengths };
+    bill_examined(sheet, board, store, &media, answers, shares, rate).unwrap_or_else(Bill::from)
 }
 
 // The same with the grounds of each step's price: the run, and then the grounds, from the clock that it began with and from its
 // answers.
-#[tactic(auto, unfolding(model::specs::Grounds::explain))]
+#[tactic(auto, using(examine::specs::Verdicts::grounds_index_small), unfolding(model::specs::Grounds::explain))]
 fn explain_examined(
     sheet: &[u8],
     board: &mut [u8],
     store: &mut [u8],
-    bios: &[u8],
-    rom: &[u8],
+    media: &Media<'_>,
     answers: &mut [u8],
     grounds: &mut [u8],
-    lengths: Lengths,
 ) -> Result<Report, Refusal>
     ensures { reported_grounds (told report_of_refusal result) board.new store.new answers.new grounds.new
-        ≡ explain (explaining (lending sheet.now board.old store.old bios.now
-        rom.now answers.old lengths) grounds.old) }
+        ≡ explain (explaining (lent_by sheet.now board.old store.old media.now answers.old) grounds.old) }
 {
     let lent = Lent {
         sheet,
         board,
         store,
-        bios,
-        rom,
+        bios: media.bios,
+        rom: media.rom,
         answers,
-        lengths,
+        lengths: media.lengths,
     };
     lent.examine_grounds(grounds)?;
     let clock = board::load_clock(board.as_array().unwrap());
-    let report = run_accepted(sheet, board, store, bios, rom, answers, lengths);
+    let report = run_accepted(sheet, board, store, media, answers);
     grounds::put_grounds(sheet, report.index as usize, clock, answers, grounds);
     Ok(report)
 }
@@ -303,14 +295,13 @@ pub fn bts_run_grounds(
         oam,
         sram,
     };
-    explain_examined(sheet, board, store, bios, rom, answers, grounds, lengths).unwrap_or_else(
-        Report::from,
-    )
+    let media = Media { bios, rom, lengths };
+    explain_examined(sheet, board, store, &media, answers, grounds).unwrap_or_else(Report::from)
 }
 
 // The price of an accepted sheet: a run over no memories on a copy of the board, of whose values only those stay that the clock
 // tells. What the other columns show, the clock tells.
-#[tactic(auto, unfolding(model::specs::Preview::preview))]
+#[tactic(auto, using(examine::specs::Verdicts::preview_index_small), unfolding(model::specs::Preview::preview))]
 fn preview_examined(sheet: &[u8], board: &[u8], answers: &mut [u8]) -> Result<Report, Refusal>
     ensures { reported_preview (told report_of_refusal result) sheet.now board.now answers.new
         ≡ preview (asking sheet.now board.now answers.old) }
@@ -318,15 +309,12 @@ fn preview_examined(sheet: &[u8], board: &[u8], answers: &mut [u8]) -> Result<Re
     examine::examine_preview(sheet, board, answers)?;
     let mut spare: [u8; BOARD_LENGTH] = *board.as_array().unwrap();
     let mut store = [0u8; 0];
-    let report = run_accepted(
-        sheet,
-        &mut spare,
-        &mut store,
-        b"",
-        b"",
-        answers,
-        Lengths::none(),
-    );
+    let media = Media {
+        bios: b"",
+        rom: b"",
+        lengths: Lengths::none(),
+    };
+    let report = run_accepted(sheet, &mut spare, &mut store, &media, answers);
     preview::put_values(sheet, report.index as usize, answers);
     Ok(report)
 }

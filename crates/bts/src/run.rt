@@ -32,7 +32,7 @@ pub struct Done {
     pub total: u64,
 }
 
-// The first n records of a sheet.
+// The first n records of a sheet. Halfwords, store and answers are written, each by another function, so that they come apart.
 pub fn run_core(
     sheet: &[u8],
     n: usize,
@@ -54,6 +54,7 @@ pub fn run_core(
     });
     let mut current = machine;
     let mut total: u64 = 0;
+    // by number: the records and the answers go by strides of their own, and what is written is known up to k
     for k in 0..n {
         let step = step_of(record_at(sheet, version, k));
         let taken = take_step(current, waits, halves, step, store, media);

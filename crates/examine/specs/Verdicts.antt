@@ -1,34 +1,39 @@
 -- The examination in parts, as laws: a part that refuses decides the verdict, one that accepts leaves it to the rest; and
 -- what an accepted sheet's tests say of its numbers.
-use Rattle.std.specs.Prelude.{◌≡◌, ◌≢◌, Bool, true, false, not, ◌&&◌, List, ◌++◌, ℕ, ◌*◌, ◌≤◌, ◌<◌, length, eqb, ltb, leb}
+use Rattle.std.specs.Prelude.{◌≡◌, refl, ◌≢◌, Bool, true, false, not, ◌&&◌, List, [], ◌++◌, length}
+use Rattle.std.specs.Prelude.{ℕ, ◌*◌, ◌≤◌, ◌<◌, eqb, ltb, leb}
 use Rattle.std.proofs.Common.{sym, ap, ◌∙◌, arith, eqb-true, leb-true, lt-ltb, le-ltb}
 use Rattle.std.proofs.lemmas.Bool.{not-true, not-false}
 use Rattle.model.specs.Base.{AllBytes}
 use Rattle.model.specs.Memory.{lengths_sum}
-use Rattle.model.specs.Sheet.{latest_version, knows, is_marked, version_of, is_shaped, max_records, record_start, record_count, records_from, least_faulty}
+use Rattle.model.specs.Sheet.{latest_version, knows, is_marked, version_of, is_shaped, max_records, record_start}
+use Rattle.model.specs.Sheet.{record_count, records_from, least_faulty}
 use Rattle.model.specs.BoardBytes.{board_length, answer_length, clock_of}
 use Rattle.model.specs.Outcome.{Lent, Row, row, by_row, first_row, sheet_rows, answers_rows}
-use Rattle.model.specs.Outcome.{room_rows, fault_index, records_rows, sizes_fit, verdict, refusal_index, outcome_by, outcome}
-use Rattle.model.specs.Tariff.{Tariffed, tariff_verdict, bill}
-use Rattle.model.specs.Grounds.{Explaining, grounds_verdict, explain}
-use Rattle.model.specs.Preview.{Asked, preview_verdict, preview_by, preview}
+use Rattle.model.specs.Outcome.{room_rows, fault_index, records_rows, second_rows, sizes_fit, verdict}
+use Rattle.model.specs.Outcome.{refusal_index, verdict_number, outcome_by, outcome}
+use Rattle.model.specs.Tariff.{share_length, Tariffed, rate_rows, tariff_verdict}
+use Rattle.model.specs.Grounds.{grounds_length, Explaining, grounds_verdict}
+use Rattle.model.specs.Preview.{Asked, no_memories, lent_with, preview_verdict}
 use Rattle.model.specs.Laws.Places.{sizes_small, Sized}
 use Rattle.model.proofs.Laws.Places.{small_sized}
 use Rattle.model.proofs.Laws.Choice.{by_test, eqb_ne, parts, or_true_right, or-false}
 use Rattle.model.specs.Laws.Sound.{SoundClock}
 use Rattle.model.proofs.Laws.Codec.{sound_formed}
-use Rattle.model.specs.Laws.Rows.{TableOf, or_else_of}
-use Rattle.model.proofs.Laws.Rows.{row_holds, row_passes, first_append, accepts_none}
-use Rattle.model.specs.Laws.Refusal.{NoFault, Acceptable, Index}
+use Rattle.model.specs.Laws.Rows.{Decides, Rising, TableOf, or_else_of}
+use Rattle.model.proofs.Laws.Rows.{row_holds, row_passes, first_append, accepts_none, decided}
+use Rattle.model.specs.Laws.Refusal.{NoFault, FirstFault, Acceptable, Index}
 use Rattle.model.proofs.Laws.Refusal as refusal
 use Rattle.model.proofs.Laws.Refusal.{accepted_acceptable}
 use Rattle.model.proofs.Laws.Billed as billed
 use Rattle.model.proofs.Laws.Explained as explained
-use Rattle.model.proofs.Laws.Previewed as previewed
+use Rattle.model.proofs.Laws.Previewed.{bare_verdict}
 use Rattle.model.proofs.Laws.Fits.{sound_clock}
+use Rattle.model.proofs.Laws.Second.{fault_told}
 use Rattle.model.specs.declared.Lengths.{Lengths}
 use Rattle.model.specs.declared.Refusal.{Refusal}
-use Rattle.model.specs.declared.Refusal.TheVariants.{ShortAnswers, FaultyRecord}
+use Rattle.model.specs.declared.Refusal.TheVariants.{BadMark, BadVersion, BadShape, BadLengths}
+use Rattle.model.specs.declared.Refusal.TheVariants.{UnsoundBoard, ShortAnswers, FaultyRecord, BadRate}
 use Rattle.model.specs.Verdict.{Verdict, Accepted, Refused}
 
 -- ---- a table in two parts
@@ -136,6 +141,22 @@ sheet_shaped s more e a = shaped s (not-false (is_shaped s) (accepts_none (sheet
 
 -- ---- the index of a call fits: it is 0, that of a record, or the number of records
 
+small_index : (r : Refusal) → ((k : ℕ) → r ≡ FaultyRecord k → k ≤ max_records) → refusal_index r ≤ max_records
+small_index BadMark h = omega arith
+small_index BadVersion h = omega arith
+small_index BadShape h = omega arith
+small_index BadLengths h = omega arith
+small_index UnsoundBoard h = omega arith
+small_index ShortAnswers h = omega arith
+small_index (FaultyRecord k) h = h k refl
+small_index BadRate h = omega arith
+
+-- the faulty record of a sheet that has its shape
+few_faulty : (s : List ℕ) (number index : ℕ) → Index s number index → not (is_shaped s) ≡ false → number ≡ 7 → index ≤ max_records
+few_faulty s number index x e seven =
+    let f : FirstFault s index = x.faulty_record seven in
+    omega (arith, f.within, (shaped s (not-false (is_shaped s) e)).few)
+
 -- of a table that begins with the sheet's rows: a number that is none of theirs is that of a sheet with its shape
 module _ (s : List ℕ) {more : List Row} {number : ℕ} (t : TableOf (sheet_rows s ++ more) number) where
   marked : number ≢ 1 → not (is_marked s) ≡ false
@@ -146,15 +167,16 @@ module _ (s : List ℕ) {more : List Row} {number : ℕ} (t : TableOf (sheet_row
       by_test (not (knows latest_version (version_of s)))
       (λ e. absurd (g ((t.row 1 (omega arith)).1 (marked h, e)))) (λ e. e)
 
+  has_shape : number ≢ 1 → number ≢ 2 → number ≢ 3 → not (is_shaped s) ≡ false
+  has_shape h g f =
+      by_test (not (is_shaped s))
+      (λ e. absurd (f ((t.row 2 (omega arith)).1 (marked h, (versioned h g, e))))) (λ e. e)
+
   pub told_shaped : number ≢ 1 → number ≢ 2 → number ≢ 3 → Shaped s
-  told_shaped h g f =
-      shaped s
-      (not-false (is_shaped s)
-      (by_test (not (is_shaped s))
-      (λ e. absurd (f ((t.row 2 (omega arith)).1 (marked h, (versioned h g, e))))) (λ e. e)))
+  told_shaped h g f = shaped s (not-false (is_shaped s) (has_shape h g f))
 
   pub few_index : {index : ℕ} → Index s number index → index ≤ max_records
-  few_index x =
+  few_index {index} x =
       by_test (eqb number 0)
       (λ e.
       let z = eqb-true number 0 e in
@@ -163,8 +185,8 @@ module _ (s : List ℕ) {more : List Row} {number : ℕ} (t : TableOf (sheet_row
       (λ e. by_test (eqb number 7)
       (λ f.
       let z = eqb-true number 7 f in
-      let k = told_shaped (λ h. omega (arith, z, h)) (λ h. omega (arith, z, h)) (λ h. omega (arith, z, h)) in
-      omega (arith, (x.faulty_record z).within, k.few))
+      few_faulty s number index x
+      (has_shape (λ h. omega (arith, z, h)) (λ h. omega (arith, z, h)) (λ h. omega (arith, z, h))) z)
       (λ f. omega (arith, x.refused (eqb_ne number 0 e) (eqb_ne number 7 f))))
 
 -- and so that of a refusal, whichever operation makes it
@@ -173,20 +195,26 @@ unfolding outcome
 index_small i r e =
     rw (ap (λ (v : Verdict). (outcome_by i v).index) e) at (few_index i.sheet (refusal.run_table i) (refusal.index i))
 
+-- that of a table with a second buffer, with whatever rows behind it
+second_small : (i : Lent) (each second : ℕ) (more : List Row) (r : Refusal) → Rising 0 (second_rows i each second ++ more)
+    → first_row (second_rows i each second ++ more) ≡ Refused r → refusal_index r ≤ max_records
+second_small i each second more r rising e =
+    small_index r λ k z.
+    let rs = second_rows i each second ++ more in
+    let v : first_row rs ≡ Refused (FaultyRecord k) = e ∙ ap (λ (q : Refusal). Refused q) z in
+    let d : Decides rs 6 = (decided 0 rs rising 6 (omega arith)).0 (ap verdict_number v) in
+    let f : FirstFault i.sheet k = rw v at (fault_told i each second more d) in
+    omega (arith, f.within, (shaped i.sheet (not-false (is_shaped i.sheet) d.1.1.0)).few)
+
 pub tariff_index_small : (t : Tariffed) (r : Refusal) → tariff_verdict t ≡ Refused r → refusal_index r ≤ max_records
-unfolding bill
+unfolding tariff_verdict
 tariff_index_small t r e =
-    rw (ap (λ (v : Verdict). (outcome_by t.run v).index) e)
-    at (few_index t.run.sheet (billed.tariff_table t) (billed.tariff_index t))
+    second_small t.run share_length (length t.shares) (rate_rows t.rate) r (billed.rising t) e
 
 pub grounds_index_small : (e : Explaining) (r : Refusal) → grounds_verdict e ≡ Refused r → refusal_index r ≤ max_records
-unfolding explain
-grounds_index_small e r v =
-    rw (ap (λ (u : Verdict). (outcome_by e.run u).index) v)
-    at (few_index e.run.sheet (explained.grounds_table e) (explained.grounds_index e))
+unfolding grounds_verdict
+grounds_index_small e r v = second_small e.run grounds_length (length e.grounds) [] r (explained.rising e) v
 
+-- a preview's is that of a run over no memories
 pub preview_index_small : (q : Asked) (r : Refusal) → preview_verdict q ≡ Refused r → refusal_index r ≤ max_records
-unfolding preview
-preview_index_small q r e =
-    rw (ap (λ (v : Verdict). (preview_by q v).index) e)
-    at (few_index q.sheet (previewed.preview_table q) (previewed.preview_index q))
+preview_index_small q r e = index_small (lent_with q no_memories) r (bare_verdict q ∙ e)

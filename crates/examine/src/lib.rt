@@ -111,11 +111,10 @@ pub fn examine_records(sheet: &[u8]) -> Result<(), Refusal>
     ensures { result ≡ def.first_row (def.records_rows sheet.now) }
 {
     let n = sheet::record_count(sheet);
-    let k = sheet::least_faulty(sheet, n);
-    if k < n {
-        return Err(Refusal::FaultyRecord(k as u32));
+    match sheet::least_faulty(sheet, n) {
+        Some(k) => Err(Refusal::FaultyRecord(k)),
+        None => Ok(()),
     }
-    Ok(())
 }
 
 // The rate of a tariff.
@@ -219,7 +218,7 @@ pub fn examine_preview(sheet: &[u8], board: &[u8], answers: &[u8]) -> Result<(),
     examine_rest(sheet, room)
 }
 
-// The documents' number of a refusal.
+// The documents' number of a refusal, which reports and bills have; a `From` would stand in model.
 pub fn refusal_number(r: Refusal) -> u32
     ensures { result ≡ def.refusal_number r }
 {
@@ -236,7 +235,7 @@ pub fn refusal_number(r: Refusal) -> u32
 }
 
 // The record that it names; 0 but for a faulty record.
-pub fn refusal_index(r: Refusal) -> u32
+pub fn refusal_index(r: Refusal) -> usize
     ensures { result ≡ def.refusal_index r }
 {
     match r {

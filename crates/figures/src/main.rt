@@ -5,9 +5,6 @@
 mod record;
 mod worked;
 
-ghost use Rattle.std.specs.Prelude.{◌≤◌, length};
-ghost use Rattle.model.specs.Sheet.{max_records};
-
 use model::{ANSWER_LENGTH, BOARD_LENGTH, Lengths};
 use record::{Record, sheet_of};
 use std::alloc::{AllocError, Global};
@@ -35,7 +32,7 @@ fn cartridge() -> [u8; 512] {
     rom
 }
 
-// What a run of a figure gives.
+// What a run of a figure gives: the report's number, which is C's, and the answers.
 #[derive(Drop)]
 struct Given {
     number: u32,
@@ -43,9 +40,7 @@ struct Given {
 }
 
 // On a fresh board over zeroed memories.
-fn run(alloc: Global, records: &[Record]) -> Result<Given, AllocError>
-    requires { length records.now ≤ max_records }
-{
+fn run(alloc: Global, records: &[Record]) -> Result<Given, AllocError> {
     let sheet = sheet_of(alloc, records)?;
     let mut board = [0u8; BOARD_LENGTH];
     let mut store = vec![in alloc; 0; STORE_LENGTH]?;

@@ -1,6 +1,6 @@
 // A record of a figure's sheet, and the sheet of a list of records. From document 01, "Sheet" and the table of kinds.
 ghost use Rattle.std.specs.Prelude.{◌≡◌, ◌+◌, ◌*◌, ◌≤◌, length, IfOk};
-ghost use Rattle.model.specs.Sheet.{header_length, record_length, max_records, step_of};
+ghost use Rattle.model.specs.Sheet.{header_length, record_length, step_of};
 ghost use Rattle.model.specs.Wait.{access_size_of};
 ghost use Rattle.figures.specs.Record.{record_in, plain_record, step_for};
 
@@ -65,11 +65,10 @@ impl Record {
 }
 
 // The sheet of these records, of version 1.
-pub fn sheet_of(alloc: Global, records: &[Record]) -> Result<Vec<u8>, AllocError>
-    requires { length records.now ≤ max_records }
+pub(crate) fn sheet_of(alloc: Global, records: &[Record]) -> Result<Vec<u8>, AllocError>
     ensures { IfOk result (λ sheet. length sheet.items ≡ header_length + record_length * length records.now) }
 {
-    let [low, high] = (records.len() as u16).to_le_bytes();
+    let [low, high, ..] = records.len().to_le_bytes();
     let mut sheet = vec![in alloc; b'B', b'T', b'S', 1, 0, 0, low, high]?;
     for record in records {
         sheet.extend_from_slice(&record.to_bytes())?;

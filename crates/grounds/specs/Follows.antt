@@ -3,7 +3,6 @@
 use Rattle.std.specs.Prelude.{◌≡◌, ℕ, zero, suc, ◌+◌, ◌*◌, ◌%◌, ◌^◌, ◌≤◌, Bool, true, false, ◌&&◌, ◌≢◌, ◌++◌, ◌==◌, nat_eq}
 use Rattle.std.proofs.Math.Path.{refl, ap}
 use Rattle.std.proofs.Common.{sym, ap₂, ◌∙◌, arith}
-use borrow.Author.Tests.{ne_eqb}
 use Rattle.std.specs.Prelude.{if◌then◌else◌}
 use Rattle.std.specs.Prelude.{Option, Some, None}
 use Rattle.model.specs.Base.{bit, further, lowered}
@@ -53,7 +52,8 @@ use Rattle.model.specs.declared.IsaState.{IsaState}
 use Rattle.model.specs.declared.IsaState.TheVariants.{Arm, Thumb}
 use Rattle.grounds.specs.declared.Trail.{Trail}
 use Rattle.grounds.specs.declared.Before.{Before}
-use Rattle.grounds.specs.Trail.{nowhere, trail, begins, front_hits, code_front, ground_at, data_from, data_next, block_from, block_next}
+use Rattle.grounds.specs.Trail.{nowhere, trail, begins, front_hits, code_front, goes_on_at, ground_at}
+use Rattle.grounds.specs.Trail.{data_from, data_next, block_from, block_next}
 use Rattle.grounds.specs.Trail.{beats_by, trail_after}
 
 -- ---- the front of a buffer
@@ -222,8 +222,8 @@ fetch_same hits hits' forced isa a e = by (window a)
     by None = refl
 
 -- where an access goes on from the previous one
-abbrev pub next_of : Previous → ℕ
-next_of p = if p.size == 0 then nowhere else further p.size p.addr
+abbrev pub next_of : Previous → Option ℕ
+next_of p = if p.size == 0 then nowhere else Some (further p.size p.addr)
 
 -- what a kind without a block comes to
 kind_by : (t : Bool) → kind_ground (if t then Seq else Nonseq) ≡ (if t then Sequential else ByAddress)
@@ -235,16 +235,14 @@ unfolding first_ground ground_at kind_after classify_access
 next_ground p n s r =
     choose₂ (λ (g h : Ground). g ≡ h) (force_nonseq n) (λ b. refl)
     λ b. by_test (p.size == 0)
-    (λ e.
-    let past : nat_eq n nowhere ≡ false = ne_eqb n nowhere (λ q. omega (arith, q, r.below)) in
-    simp (e, past))
+    (λ e. simp e)
     (λ e.
     let size : size_bytes_of (access_size_of p.size) ≡ p.size = (there p s e).sized in
     let inside : in_window n && force_nonseq n ≡ false = simp (true_in_window n r, b) in
     ap kind_ground (sym (rom_kind p n s r e) ∙ if_false _ _ _ inside)
     ∙ ap (λ (z : ℕ). kind_ground (if nat_eq n (further z p.addr) then Seq else Nonseq)) size
     ∙ kind_by (n == further p.size p.addr)
-    ∙ sym (ap (λ (m : ℕ). if n == m then Sequential else ByAddress) (if_false _ _ _ e)))
+    ∙ sym (ap (λ (m : Option ℕ). if goes_on_at m n then Sequential else ByAddress) (if_false _ _ _ e)))
 
 pub data_same : (p : Previous) (z : AccessSize) (a : ℕ) → SoundPrevious p → data_from (next_of p) z a ≡ data_grounds p z a
 unfolding data_grounds
@@ -312,9 +310,10 @@ module _ (t : Trail) (c : Clock) (b : Before) (taken : ℕ) (s : SoundClock c) (
   -- a data access, whether it reads or writes
   data_told : (z : AccessSize) (a : ℕ) → beat_bytes (data_from t.next z a) ≡ beat_bytes (data_grounds (previous c) z a)
   data_told z a =
-      ap (λ (m : ℕ). beat_bytes (data_from m z a)) f.next ∙ ap beat_bytes (data_same (previous c) z a s.previous)
+      ap (λ (m : Option ℕ). beat_bytes (data_from m z a)) f.next ∙ ap beat_bytes (data_same (previous c) z a s.previous)
 
-  goes_on : (z : AccessSize) (a : ℕ) → data_next z a ≡ (if nat_eq (size_bytes_of z) 0 then nowhere else data_next z a)
+  goes_on : (z : AccessSize) (a : ℕ)
+      → Some (data_next z a) ≡ (if nat_eq (size_bytes_of z) 0 then nowhere else Some (data_next z a))
   goes_on z a = sym (if_false _ _ _ (some_size z))
 
   waitcnt_follows : (v : ℕ) → Follows (trail_after (Waitcnt v) t taken) (clock_after c (Waitcnt v))
@@ -353,21 +352,62 @@ module _ (t : Trail) (c : Clock) (b : Before) (taken : ℕ) (s : SoundClock c) (
   -- a block, whether it reads or writes
   block_told : (a n : ℕ) → beat_bytes (block_from t.next a n) ≡ beat_bytes (block_grounds (previous c) a n)
   block_told a n =
-      ap (λ (m : ℕ). beat_bytes (block_from m a n)) f.next ∙ ap beat_bytes (block_same (previous c) a n s.previous)
+      ap (λ (m : Option ℕ). beat_bytes (block_from m a n)) f.next ∙ ap beat_bytes (block_same (previous c) a n s.previous)
 
   block_follows : (a n : ℕ) → block_next t.next a n ≡ next_of (block_previous (previous c) a n)
-  block_follows a n = ap (λ (m : ℕ). block_next m a n) f.next ∙ block_next_law (previous c) a n
+  block_follows a n = ap (λ (m : Option ℕ). block_next m a n) f.next ∙ block_next_law (previous c) a n
+
+  -- each step
+  read_right : (z : AccessSize) (a : ℕ) → Right (Read z a)
+  unfolding ticks
+  read_right z a = (data_told z a, record { front = f.front; next = goes_on z a })
+
+  write_right : (z : AccessSize) (a v : ℕ) → Right (Write z a v)
+  unfolding ticks
+  write_right z a v = (data_told z a, record { front = f.front; next = goes_on z a })
+
+  waitcnt_right : (v : ℕ) → Right (Waitcnt v)
+  waitcnt_right v = (refl, waitcnt_follows v)
+
+  idle_right : (n : ℕ) → Right (Idle n)
+  idle_right n = (refl, idle_follows n)
+
+  fetch_right : (a : ℕ) → taken ≡ bit (hit c.prefetch a) → Right (Fetch a)
+  unfolding ticks
+  fetch_right a h = (refl, record { front = fetch_front t.front c.prefetch a taken s.buffer h f.front; next = refl })
+
+  restart_right : (a : ℕ) → Right (Restart a)
+  unfolding ticks
+  restart_right a = (refl, record { front = restart_front (waits_of c) c.prefetch a; next = refl })
+
+  code_right : (v : Version) (isa : IsaState) (a op : ℕ) (jump : Bool) → Right (Instruction v isa a op jump)
+  code_right v isa a op jump = (ap beat_bytes (code_told isa a), code_follows v isa a op jump)
+
+  pc_right : (a : ℕ) → Right (Pc a)
+  unfolding ticks
+  pc_right a = (refl, record { front = f.front; next = f.next })
+
+  latch_right : (v : ℕ) → Right (Latch v)
+  unfolding ticks
+  latch_right v = (refl, record { front = f.front; next = f.next })
+
+  block_read_right : (a n : ℕ) → Right (BlockRead a n)
+  unfolding ticks
+  block_read_right a n = (block_told a n, record { front = f.front; next = block_follows a n })
+
+  block_write_right : (a n : ℕ) → Right (BlockWrite a n)
+  unfolding ticks
+  block_write_right a n = (block_told a n, record { front = f.front; next = block_follows a n })
 
   pub follows : (x : Step) → Counted c taken x → Right x
-  unfolding ticks
-  follows (Read z a) h = (data_told z a, record { front = f.front; next = goes_on z a })
-  follows (Write z a v) h = (data_told z a, record { front = f.front; next = goes_on z a })
-  follows (Waitcnt v) h = (refl, waitcnt_follows v)
-  follows (Idle n) h = (refl, idle_follows n)
-  follows (Fetch a) h = (refl, record { front = fetch_front t.front c.prefetch a taken s.buffer h f.front; next = refl })
-  follows (Restart a) h = (refl, record { front = restart_front (waits_of c) c.prefetch a; next = refl })
-  follows (Instruction v isa a op jump) h = (ap beat_bytes (code_told isa a), code_follows v isa a op jump)
-  follows (Pc a) h = (refl, record { front = f.front; next = f.next })
-  follows (Latch v) h = (refl, record { front = f.front; next = f.next })
-  follows (BlockRead a n) h = (block_told a n, record { front = f.front; next = block_follows a n })
-  follows (BlockWrite a n) h = (block_told a n, record { front = f.front; next = block_follows a n })
+  follows (Read z a) h = read_right z a
+  follows (Write z a v) h = write_right z a v
+  follows (Waitcnt v) h = waitcnt_right v
+  follows (Idle n) h = idle_right n
+  follows (Fetch a) h = fetch_right a h
+  follows (Restart a) h = restart_right a
+  follows (Instruction v isa a op jump) h = code_right v isa a op jump
+  follows (Pc a) h = pc_right a
+  follows (Latch v) h = latch_right v
+  follows (BlockRead a n) h = block_read_right a n
+  follows (BlockWrite a n) h = block_write_right a n

@@ -1,5 +1,5 @@
--- The names of the grounds are short.
-use Rattle.std.specs.Prelude.{ℕ, ◌≤◌, length}
+-- The names of the grounds are short, and stand in as many bytes as the longest has.
+use Rattle.std.specs.Prelude.{List, ℕ, ◌-◌, ◌≤◌, ◌++◌, length, replicate}
 use Rattle.std.proofs.Common.{arith}
 use Rattle.model.specs.Grounds.{ground_name}
 use Rattle.model.specs.declared.Ground.{Ground}
@@ -20,3 +20,19 @@ name_fits EwramBus = omega arith
 name_fits SramBus = omega arith
 name_fits VideoBus = omega arith
 name_fits Fast = omega arith
+
+-- a name in a field of that length, with zeros behind it
+abbrev pub named : Ground → List ℕ
+named g = ground_name g ++ replicate (name_length - length (ground_name g)) 0
+
+-- its letters are there
+pub named_fits : (g : Ground) → length (ground_name g) ≤ length (named g)
+named_fits BufferHit = omega arith
+named_fits Sequential = omega arith
+named_fits ByFlag = omega arith
+named_fits ByBlock = omega arith
+named_fits ByAddress = omega arith
+named_fits EwramBus = omega arith
+named_fits SramBus = omega arith
+named_fits VideoBus = omega arith
+named_fits Fast = omega arith

@@ -1,5 +1,5 @@
--- The digits of the pages: what they say of an address is what its bus says, by one computed test over all pages. And what beats
--- are as bytes.
+-- What beats are as bytes, and the grounds of a data access as digits, one a page: what the digits say of an address is what its
+-- bus says, by one computed test over all pages.
 use Rattle.std.specs.Prelude.{◌≡◌, ℕ, zero, suc, ◌*◌, ◌/◌, ◌%◌, ◌^◌, ◌<◌, ◌≤◌, Bool, true, false, ◌&&◌, ltb, List, [], ◌∷◌, replicate, ◌==◌, nat_eq, nat_lt}
 use Rattle.std.proofs.Math.Path.{refl}
 use Rattle.std.proofs.Common.{sym, ap, ap₂, ◌∙◌, true≢false, arith, eqb-true, ltb-true, ltb-false}
@@ -23,7 +23,7 @@ use Rattle.model.specs.declared.AccessSize.TheVariants.{Byte, Half, Word}
 use Rattle.model.specs.declared.IsaState.{IsaState}
 use Rattle.grounds.specs.Trail.{page_digit}
 
--- the digits, as the code has them
+-- the digits, that of page 0x0F first and that of page 0 last: of the first beat and of a word's second
 abbrev pub first_beats : ℕ
 first_beats = 0x7700_0000_9889_9699
 
@@ -160,26 +160,34 @@ unfolding half_ground
 half_at hits forced a = refl
 
 module _ (hits : ℕ → Bool) (forced : Bool) (isa : IsaState) (a : ℕ) where
+  pub in_rom : in_window a ≡ true
+      → fetch_grounds hits forced isa a
+      ≡ wide (code_size isa) (half_ground hits forced a) (half_ground hits false (further 2 a))
+  unfolding fetch_grounds
+  in_rom = by (window a)
+    where
+      by : (v : Option RomWindow) → is_in v ≡ true
+          → fetch_grounds_in hits forced a isa v
+          ≡ wide (code_size isa) (half_ground hits forced a) (half_ground hits false (further 2 a))
+      by (Some win) h = refl
+      by None h = absurd (false≢true h)
+
+  pub outside : in_window a ≡ false → fetch_grounds hits forced isa a ≡ plain_ground a ∷ []
+  unfolding fetch_grounds
+  outside = by (window a)
+    where
+      by : (v : Option RomWindow) → is_in v ≡ false → fetch_grounds_in hits forced a isa v ≡ plain_ground a ∷ []
+      by (Some win) h = absurd (true≢false h)
+      by None h = refl
+
+  -- as bytes
   pub code_in : in_window a ≡ true
       → beat_bytes (fetch_grounds hits forced isa a)
       ≡ ground_byte (half_ground hits forced a)
       ∷ of_arm isa (ground_byte (half_ground hits false (further 2 a))) ∷ zeros
-  unfolding fetch_grounds
-  code_in = by (window a)
-    where
-      by : (v : Option RomWindow) → is_in v ≡ true
-          → beat_bytes (fetch_grounds_in hits forced a isa v)
-          ≡ ground_byte (half_ground hits forced a)
-          ∷ of_arm isa (ground_byte (half_ground hits false (further 2 a))) ∷ zeros
-      by (Some win) h = code_bytes isa (half_ground hits forced a) (half_ground hits false (further 2 a))
-      by None h = absurd (false≢true h)
+  code_in h =
+      ap beat_bytes (in_rom h) ∙ code_bytes isa (half_ground hits forced a) (half_ground hits false (further 2 a))
 
   pub code_out : in_window a ≡ false
       → beat_bytes (fetch_grounds hits forced isa a) ≡ ground_byte (plain_ground a) ∷ 0 ∷ zeros
-  unfolding fetch_grounds
-  code_out = by (window a)
-    where
-      by : (v : Option RomWindow) → is_in v ≡ false
-          → beat_bytes (fetch_grounds_in hits forced a isa v) ≡ ground_byte (plain_ground a) ∷ 0 ∷ zeros
-      by (Some win) h = absurd (true≢false h)
-      by None h = refl
+  code_out h = ap beat_bytes (outside h)

@@ -1,8 +1,8 @@
 -- What the code carries from step to step, in place of the clock: where the buffer's first halfword stands or comes to stand, and
 -- where a data access goes on from the previous one. These are the code's own terms; that they follow the clock is shown in
 -- Follows.antt.
-use Rattle.std.specs.Prelude.{◌≡◌, ℕ, zero, suc, ◌+◌, ◌-◌, ◌*◌, ◌/◌, ◌%◌, ◌^◌, ◌≤◌, Bool, not, ◌&&◌, List, [], ◌∷◌, ◌++◌, length, replicate, ◌==◌, nat_eq, nat_lt}
-use Rattle.std.specs.Prelude.{if◌then◌else◌}
+use Rattle.std.specs.Prelude.{◌≡◌, ℕ, zero, suc, ◌+◌, ◌-◌, ◌*◌, ◌/◌, ◌%◌, ◌^◌, ◌≤◌, Bool, false, not, ◌&&◌, List, [], ◌∷◌, ◌++◌, length, ◌==◌, nat_eq, nat_lt}
+use Rattle.std.specs.Prelude.{if◌then◌else◌, Option, Some, None}
 use Rattle.model.specs.Base.{byte_at, further, lowered}
 use Rattle.model.specs.Region.{page, decode}
 use Rattle.model.specs.Wait.{size_bytes_of, aligned, in_window, force_nonseq}
@@ -25,27 +25,31 @@ use Rattle.grounds.specs.declared.Before.{Before}
 
 -- ---- beats
 
+-- the grounds of beats; the second is there or not
+abbrev pub if_any : Option Ground → List Ground
+if_any (Some g) = g ∷ []
+if_any None = []
+
+abbrev pub grounds_of : Beats → List Ground
+grounds_of b = b.first ∷ if_any b.second
+
 -- the 32 bytes of a step with at most two beats
 abbrev pub beats_of : Beats → List ℕ
-beats_of b = b.first ∷ b.second ∷ replicate 30 0
-
--- how many they are, where there is one
-abbrev pub beat_count : Beats → ℕ
-beat_count b = if b.second == 0 then 1 else 2
+beats_of b = beat_bytes (grounds_of b)
 
 -- ---- the trail
 
-abbrev pub trail : ℕ → ℕ → Trail
+abbrev pub trail : ℕ → Option ℕ → Trail
 trail front next = record { front = front; next = next }
 
 -- no address
-abbrev pub nowhere : ℕ
-nowhere = 0x1_0000_0000
+abbrev pub nowhere : Option ℕ
+nowhere = None
 
 unfoldable pub begins : Clock → Trail
 begins c =
     trail (if nat_eq c.prefetch.count 0 then c.prefetch.next_addr else c.prefetch.head_addr)
-    (if nat_eq c.previous.size 0 then nowhere else further c.previous.size c.previous.addr)
+    (if nat_eq c.previous.size 0 then nowhere else Some (further c.previous.size c.previous.addr))
 
 -- the answers of the first k steps stand
 pub record Reaches (k : ℕ) (answers : List ℕ) : Type 0 where
@@ -72,32 +76,37 @@ code_front front isa a = if in_window a then lowered 2 (further (size_bytes_of (
 
 -- ---- a data access
 
+-- an access goes on at the address `n`
+abbrev pub goes_on_at : Option ℕ → ℕ → Bool
+goes_on_at (Some next) n = n == next
+goes_on_at None n = false
+
 -- the first beat from ROM at the lowered address `n`, where an access goes on at `next`
-unfoldable pub ground_at : ℕ → ℕ → Ground
-ground_at next n = if force_nonseq n then ByBlock else if n == next then Sequential else ByAddress
+unfoldable pub ground_at : Option ℕ → ℕ → Ground
+ground_at next n = if force_nonseq n then ByBlock else if goes_on_at next n then Sequential else ByAddress
 
 -- the grounds of an access, and where the next one goes on
-abbrev pub data_from : ℕ → AccessSize → ℕ → List Ground
+abbrev pub data_from : Option ℕ → AccessSize → ℕ → List Ground
 data_from next z a = data_grounds_on z (ground_at next (aligned z a)) (bus_of (decode a))
 
 abbrev pub data_next : AccessSize → ℕ → ℕ
 data_next z a = further (size_bytes_of z) (aligned z a)
 
 -- of the words of a block, each behind the one before it
-abbrev pub block_from : ℕ → ℕ → ℕ → List Ground
+abbrev pub block_from : Option ℕ → ℕ → ℕ → List Ground
 block_from next a zero = []
-block_from next a (suc n) = data_from next Word a ++ block_from (data_next Word a) (further 4 a) n
+block_from next a (suc n) = data_from next Word a ++ block_from (Some (data_next Word a)) (further 4 a) n
 
-abbrev pub block_next : ℕ → ℕ → ℕ → ℕ
+abbrev pub block_next : Option ℕ → ℕ → ℕ → Option ℕ
 block_next next a zero = next
-block_next next a (suc n) = block_next (data_next Word a) (further 4 a) n
+block_next next a (suc n) = block_next (Some (data_next Word a)) (further 4 a) n
 
 -- what is told of a block, and where an access goes on behind it
-pub record TellsBlock (next a n : ℕ) (out : List ℕ) (behind : ℕ) : Type 0 where
+pub record TellsBlock (next : Option ℕ) (a n : ℕ) (out : List ℕ) (behind : Option ℕ) : Type 0 where
   pub told : out ≡ beat_bytes (block_from next a n)
   pub goes_on : behind ≡ block_next next a n
 
--- the digit of an address's page
+-- the digit of an address's page (Pages.antt)
 unfoldable pub page_digit : ℕ → ℕ → ℕ
 page_digit digits a = if nat_lt (page a) 16 then digits / 2 ^ (4 * page a) % 16 else digits / 2 ^ (4 * 0) % 16
 
@@ -133,8 +142,8 @@ passes (BlockWrite a n) t taken = t
 
 -- and behind any
 abbrev pub trail_after : Step → Trail → ℕ → Trail
-trail_after (Read z a) t taken = trail t.front (data_next z a)
-trail_after (Write z a v) t taken = trail t.front (data_next z a)
+trail_after (Read z a) t taken = trail t.front (Some (data_next z a))
+trail_after (Write z a v) t taken = trail t.front (Some (data_next z a))
 trail_after (Waitcnt v) t taken = passes (Waitcnt v) t taken
 trail_after (Idle n) t taken = passes (Idle n) t taken
 trail_after (Fetch a) t taken = passes (Fetch a) t taken

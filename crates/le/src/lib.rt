@@ -2,7 +2,7 @@
 // bytes it reads 0. The readers and writers of fixed width leave the lengths to their callers, who test them once.
 #![tactic(auto)]
 
-ghost use Rattle.std.specs.Prelude.{◌≡◌, ◌++◌, ◌+◌, ◌*◌, ◌≤◌, ◌<◌, length};
+ghost use Rattle.std.specs.Prelude.{◌≡◌, ◌++◌, ◌+◌, ◌*◌, ◌≤◌, ◌<◌, length, take, drop};
 ghost use Rattle.model.specs.Base as def;
 
 // ---- read at any place
@@ -34,37 +34,36 @@ pub fn word_at(s: &[u8], at: usize) -> u32
     half_at(s, at) as u32 + 0x1_0000 * half_at(s, at + 2) as u32
 }
 
-// ---- read where the bytes stand: each byte by its place, of which the compiler makes one load. By `first_chunk` it would test
-// the length anew
+// ---- read where the bytes stand. One function a width, here and where they are written, as std has one: a trait over the widths
+// would need an impl for each besides
+
+// The N bytes from a place on.
+fn array_at<const N: usize>(s: &[u8], at: usize) -> [u8; N]
+    requires { at + N ≤ length s.now }
+    ensures { result ≡ take N (drop at s.now) }
+{
+    *s[at..at + N].as_array().unwrap()
+}
 
 pub fn read16(s: &[u8], at: usize) -> u16
     requires { at + 2 ≤ length s.now }
     ensures { result ≡ def.number 2 s.now at }
 {
-    u16::from_le_bytes([s[at], s[at + 1]])
+    u16::from_le_bytes(array_at(s, at))
 }
 
 pub fn read32(s: &[u8], at: usize) -> u32
     requires { at + 4 ≤ length s.now }
     ensures { result ≡ def.number 4 s.now at }
 {
-    u32::from_le_bytes([s[at], s[at + 1], s[at + 2], s[at + 3]])
+    u32::from_le_bytes(array_at(s, at))
 }
 
 pub fn read64(s: &[u8], at: usize) -> u64
     requires { at + 8 ≤ length s.now }
     ensures { result ≡ def.number 8 s.now at }
 {
-    u64::from_le_bytes([
-        s[at],
-        s[at + 1],
-        s[at + 2],
-        s[at + 3],
-        s[at + 4],
-        s[at + 5],
-        s[at + 6],
-        s[at + 7],
-    ])
+    u64::from_le_bytes(array_at(s, at))
 }
 
 // ---- a byte of a number

@@ -18,7 +18,8 @@ use le::byte_at;
 use model::{AccessSize, Lengths, Target};
 use openbus::OpenBusState;
 use parts::{is_sram, memory, target_of};
-use region::mirror::rom_offset;
+use region::ROM_WINDOW_SIZE;
+use region::mirror::mirrored;
 use std::marker::Model;
 use waits::size_bytes;
 
@@ -34,6 +35,8 @@ impl<'a> Model for Media<'a> {
     ghost Value = { Lent };
 
     ghost view = { λ m. media m.bios.now m.rom.now m.lengths };
+
+    ghost invariant = { λ m. AllBytes m.bios.now × AllBytes m.rom.now };
 }
 
 // What a load sees: of the board the pc and the BIOS latch, and the lent memories.
@@ -81,6 +84,9 @@ fn read_sram8(chip: &[u8], index: usize) -> u8
     byte_at(chip, index % chip.len())
 }
 
+// The Rust's three loads. They are no one function over the size: each is made of the one before it, and SRAM has a rule at each.
+// The memory goes in beside the address, decoded once; a struct of both would hold the lengths too, by which they belong
+// together.
 impl<'a> Bus<'a> {
     // `read8`, in the memory that the address meets.
     #[tactic(auto, using(crate::proofs::Arms::wide_laws), unfolding(model::specs::Load::load8))]
@@ -91,7 +97,7 @@ impl<'a> Bus<'a> {
         match at {
             Target::Unused => 0,
             Target::SystemRom => read_bios8(addr, self.pc, self.latch, self.bios),
-            Target::GamePakRom => byte_at(self.rom, rom_offset(addr)),
+            Target::GamePakRom => byte_at(self.rom, mirrored::<ROM_WINDOW_SIZE>(addr)),
             Target::Plain(part, index) | Target::Video(_, part, index) => {
                 byte_at(memory(self.store, part), index)
             }
@@ -105,13 +111,13 @@ impl<'a> Bus<'a> {
         requires { at ≡ target self.now.lengths addr }
         ensures { result ≡ def.load16 self.now.lengths self.now.sees addr }
     {
-        let low = self.read8(at, addr) as u16;
+        let low = self.read8(at, addr);
         if is_sram(at) {
-            return 0x0101 * low;
+            return u16::from_le_bytes([low, low]);
         }
-        let next = std::num::wrapping_add_u32(addr, 1);
-        let high = self.read8(target_of(next, self.lengths), next) as u16;
-        low + 0x100 * high
+        let next = addr.wrapping_add(1);
+        let high = self.read8(target_of(next, self.lengths), next);
+        u16::from_le_bytes([low, high])
     }
 
     // `read32`: two halfword loads, each decoded by itself. A block (W-207) takes its last word by it, so that `read` has one
@@ -125,7 +131,7 @@ impl<'a> Bus<'a> {
             return 0x0101_0101 * self.read8(at, addr) as u32;
         }
         let low = self.read16(at, addr) as u32;
-        let next = std::num::wrapping_add_u32(addr, 2);
+        let next = addr.wrapping_add(2);
         let high = self.read16(target_of(next, self.lengths), next) as u32;
         low + 0x1_0000 * high
     }
@@ -154,7 +160,7 @@ fn word_from(at: Target, addr: u32, rom: &[u8], store: &[u8]) -> Option<u32>
 {
     match at {
         Target::Unused | Target::SystemRom | Target::Sram(_, _) => None,
-        Target::GamePakRom => word_in(rom, rom_offset(addr)),
+        Target::GamePakRom => word_in(rom, mirrored::<ROM_WINDOW_SIZE>(addr)),
         Target::Plain(part, index) | Target::Video(_, part, index) => {
             word_in(memory(store, part), index)
         }

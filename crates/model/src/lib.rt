@@ -1,13 +1,15 @@
 // The types that the machine's definitions (specs/) and every layer's code share. A type that ports one of the Rust's
-// keeps its name; the others are made for the scope document's added parts. No code that runs a sheet is here: only the
-// functions by which a type makes its own fresh value.
+// keeps its name; the others are made for the scope document's added parts. No code that runs a sheet is here: only
+// functions of a type alone, its own fresh value and a part's range.
 #![tactic(auto)]
 
-ghost use Rattle.std.specs.Prelude.{◌≡◌};
+ghost use Rattle.std.specs.Prelude.{◌≡◌, ◌+◌, ◌^◌, ◌<◌};
 ghost use Rattle.model.specs.Memory.{no_lengths};
 ghost use Rattle.model.specs.Price.{no_access};
 ghost use Rattle.model.specs.Prefetch.{new_buffer};
 ghost use Rattle.model.specs.BoardBytes.{fresh_board};
+
+use std::ops::Range;
 
 // ---- src/bus/region.rs
 
@@ -59,7 +61,9 @@ pub enum AccessSize {
 
 // ---- src/bus/prefetch.rs
 
-// The prefetch buffer without its eight halfwords, which stand beside it: time does not depend on them.
+// The prefetch buffer without its eight halfwords, which stand beside it: time does not depend on them. The fields are the Rust's
+// and the board's: any may stand on a board that is read, so that what is known of a sound one is no invariant, and a ring of
+// what stands in it would lose the bytes that do not.
 #[derive(Clone, Copy, PartialEq)]
 pub struct PrefetchBuffer {
     pub head: usize,
@@ -73,7 +77,8 @@ pub struct PrefetchBuffer {
 }
 
 impl PrefetchBuffer {
-    // The buffer of a fresh board: switched off and empty.
+    // The buffer of a fresh board: switched off and empty. A fresh state is a function, as document 01 has it, with what it is
+    // as its contract; a derived `Default` would be a second word for it.
     pub fn new() -> PrefetchBuffer
         ensures { result ≡ new_buffer }
     {
@@ -164,7 +169,8 @@ pub enum Version {
     Two,
 }
 
-// A record of a sheet: the sheet's version, and its 12 bytes as fields.
+// A record of a sheet: the sheet's version, and its 12 bytes as fields. The bytes of a layout may be anything, and the
+// examination is about any: what they stand for, where they stand for something, is a `Step`.
 #[derive(Clone, Copy)]
 pub struct SheetRecord {
     pub version: Version,
@@ -194,7 +200,8 @@ pub enum Step {
 }
 
 // The previous data access (W-204), as a board has it: its address as lowered to a multiple of its size, and the size in bytes, 0
-// for none.
+// for none. An `Option` of an access can't be proved: by the law `encode_formed` any board whose zero bytes and flags stand is
+// written back as it was read, also with a size of 3, or with an address beside 0. So soundness is no invariant of it, either.
 #[derive(Clone, Copy)]
 pub struct Previous {
     pub addr: u32,
@@ -303,6 +310,16 @@ pub struct Part {
     pub size: usize,
 }
 
+impl Part {
+    // Its places in the store.
+    pub fn range(self) -> Range<usize>
+        requires { self.base + self.size < 2 ^ 64 }
+        ensures { (result.start ≡ self.base) × (result.end ≡ self.base + self.size) }
+    {
+        self.base..self.base + self.size
+    }
+}
+
 // The three memories on the video bus, each with a counter of its own on the board.
 #[derive(Clone, Copy)]
 pub enum VideoMemory {
@@ -368,6 +385,6 @@ pub enum Refusal {
     BadLengths,
     UnsoundBoard,
     ShortAnswers,
-    FaultyRecord(u32),
+    FaultyRecord(usize),
     BadRate,
 }

@@ -73,6 +73,6 @@ pub fn empty_cart_rom_word(addr: u32) -> u32
     ensures { result ≡ lines.empty_word addr }
 {
     let low = empty_cart_rom_halfword(addr) as u32;
-    let high = empty_cart_rom_halfword(std::num::wrapping_add_u32(addr, 2)) as u32;
+    let high = empty_cart_rom_halfword(addr.wrapping_add(2)) as u32;
     low + 0x1_0000 * high
 }

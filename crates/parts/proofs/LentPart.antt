@@ -41,9 +41,13 @@ back xs a k ys = take a xs ++ (ys ++ drop k (drop a xs))
 back_same : (xs : List ℕ) (a k : ℕ) → back xs a k (take k (drop a xs)) ≡ xs
 back_same xs a k = ap (λ (l : List ℕ). take a xs ++ l) (take-append-drop k (drop a xs)) ∙ take-append-drop a xs
 
--- the bytes of a part, as they are lent
-abbrev pub lent_of : List ℕ → Part → List ℕ
-lent_of xs p = take (p.base + p.size - p.base) (drop p.base xs)
+-- the places a to b of the store, as they are lent
+abbrev pub lent_of : List ℕ → ℕ → ℕ → List ℕ
+lent_of xs a b = take (b - a) (drop a xs)
+
+-- these are a part's, as `Part::range` tells them
+abbrev pub IsRange : Part → ℕ → ℕ → Type 0
+IsRange p a b = (a ≡ p.base) × (b ≡ p.base + p.size)
 
 -- ---- the leaf
 
@@ -197,19 +201,19 @@ video_moves fill Half i v = aligned_moves i 2 v
 video_moves fill Word i v = aligned_moves i 4 v
 
 -- what is stored in the lent part is stored in the whole; ys is what the part holds when it is back
-pub lent_stores : {f : Part → List Put} → Movable f → {k : ℕ} (xs : List ℕ) (p : Part) {ys : List ℕ} {r : Stored}
-    → p.base + p.size ≤ length xs → Stores (f (whole (lent_of xs p))) k (lent_of xs p) ys r
-    → Stores (f p) k xs (back xs p.base (p.base + p.size - p.base) ys) r
-lent_stores {f} m {k} xs p {ys} {r} h s =
-    let length_is : p.base + p.size - p.base ≡ p.size = omega arith in
-    let size_is : length (lent_of xs p) ≡ p.size =
-    length-take (p.base + p.size - p.base) (drop p.base xs) ∙ omega (arith, length-drop p.base xs) in
-    let t : Stores (f (part_at 0 p.size)) k (lent_of xs p) ys r = same_puts (ap (λ (n : ℕ). f (part_at 0 n)) size_is) s in
+pub lent_stores : {f : Part → List Put} → Movable f → {k : ℕ} (xs : List ℕ) (p : Part) {a b : ℕ} {ys : List ℕ} {r : Stored}
+    → IsRange p a b → p.base + p.size ≤ length xs → Stores (f (whole (lent_of xs a b))) k (lent_of xs a b) ys r
+    → Stores (f p) k xs (back xs a (b - a) ys) r
+lent_stores {f} m {k} xs p {a} {b} {ys} {r} e h s =
+    let length_is : b - a ≡ p.size = omega (arith, e.0, e.1) in
+    let size_is : length (lent_of xs a b) ≡ p.size =
+    length-take (b - a) (drop a xs) ∙ omega (arith, e.0, e.1, length-drop a xs) in
+    let t : Stores (f (part_at 0 p.size)) k (lent_of xs a b) ys r = same_puts (ap (λ (n : ℕ). f (part_at 0 n)) size_is) s in
     let moved = m p in
     record {
       bytes =
-          ap (λ (l : List ℕ). back xs p.base (p.base + p.size - p.base) l) t.bytes
-          ∙ ap (λ (n : ℕ). back xs p.base n (landed (take n (drop p.base xs)) (f (part_at 0 p.size)))) length_is
+          ap (λ (l : List ℕ). back xs a (b - a) l) t.bytes
+          ∙ ap₂ (λ (i n : ℕ). back xs i n (landed (take n (drop i xs)) (f (part_at 0 p.size)))) e.0 length_is
           ∙ lands_back xs p.base p.size (f (part_at 0 p.size)) moved.within
           ∙ ap (landed xs) (sym moved.same);
       number = t.number ∙ sym (ap length moved.same ∙ length-map (f (part_at 0 p.size)) _);

@@ -9,9 +9,11 @@ ghost use Rattle.model.specs.Wait.{size_bytes_of};
 ghost use Rattle.parts.specs.Stored.{store_report, Stores, whole, bytes_of};
 
 use model::{AccessSize, Lengths, Part, Region, Target, VideoMemory};
-use region::mirror;
+use region::mirror::{io_offset, mirrored, vram_offset};
+use region::{EWRAM_SIZE, IWRAM_SIZE, OAM_SIZE, PALETTE_SIZE, SRAM_WINDOW_SIZE};
 
-// ---- the seven memories, one after the other
+// ---- the seven memories, one after the other. A function a memory: they differ in no number, but each begins where another
+// ends. That the lengths add up is no invariant of their type: a caller's lengths are examined when they are there
 
 // The part of `size` bytes that follows another.
 fn after(part: Part, size: usize) -> Part
@@ -94,26 +96,22 @@ pub fn target_in(region: Region, addr: u32, lengths: Lengths) -> Target
     match region {
         Region::Bios => Target::SystemRom,
         Region::UnusedLow | Region::UnusedHigh => Target::Unused,
-        Region::Ewram => Target::Plain(ewram(lengths), mirror::ewram_offset(addr)),
-        Region::Iwram => Target::Plain(iwram(lengths), mirror::iwram_offset(addr)),
-        Region::Io => io_target(io(lengths), mirror::io_offset(addr)),
+        Region::Ewram => Target::Plain(ewram(lengths), mirrored::<EWRAM_SIZE>(addr)),
+        Region::Iwram => Target::Plain(iwram(lengths), mirrored::<IWRAM_SIZE>(addr)),
+        Region::Io => io_target(io(lengths), io_offset(addr)),
         Region::Palette => Target::Video(
             VideoMemory::PaletteRam,
             palette(lengths),
-            mirror::palette_offset(addr),
+            mirrored::<PALETTE_SIZE>(addr),
         ),
-        Region::Vram => Target::Video(
-            VideoMemory::VideoRam,
-            vram(lengths),
-            mirror::vram_offset(addr),
-        ),
+        Region::Vram => Target::Video(VideoMemory::VideoRam, vram(lengths), vram_offset(addr)),
         Region::Oam => Target::Video(
             VideoMemory::ObjectRam,
             oam(lengths),
-            mirror::oam_offset(addr),
+            mirrored::<OAM_SIZE>(addr),
         ),
         Region::GamePakRomWs0 | Region::GamePakRomWs1 | Region::GamePakRomWs2 => Target::GamePakRom,
-        Region::GamePakSram => Target::Sram(sram(lengths), mirror::sram_window_offset(addr)),
+        Region::GamePakSram => Target::Sram(sram(lengths), mirrored::<SRAM_WINDOW_SIZE>(addr)),
     }
 }
 
@@ -138,7 +136,7 @@ pub fn memory(store: &[u8], part: Part) -> &[u8]
     requires { part.base + part.size ≤ length store.now }
     ensures { result.now ≡ bytes_of part store.now }
 {
-    &store[part.base..part.base + part.size]
+    &store[part.range()]
 }
 
 // ---- stores in a memory that is lent: past its end a store is dropped

@@ -15,7 +15,8 @@ ghost use Rattle.prefetch.specs.Ticked.{Ticked};
 
 use le::byte_at;
 use model::{AccessKind, PrefetchBuffer};
-use region::mirror::rom_offset;
+use region::ROM_WINDOW_SIZE;
+use region::mirror::mirrored;
 
 // Halfwords that the buffer can hold.
 pub const PREFETCH_CAPACITY: usize = 8;
@@ -84,7 +85,7 @@ pub fn restart(buffer: PrefetchBuffer, addr: u32, waits: [[u8; 2]; 3]) -> Prefet
 fn rom_byte(rom: &[u8], addr: u32) -> u8
     ensures { result ≡ base.byte_at rom.now (mirrored.rom_offset addr) }
 {
-    byte_at(rom, rom_offset(addr))
+    byte_at(rom, mirrored::<ROM_WINDOW_SIZE>(addr))
 }
 
 // `read_half`: the halfword load of the bus inside the ROM windows.
@@ -93,8 +94,8 @@ fn rom_half(rom: &[u8], addr: u32) -> u16
     ensures { result ≡ load.rom_halfword rom.now addr }
 {
     let low = rom_byte(rom, addr);
-    let high = rom_byte(rom, std::num::wrapping_add_u32(addr, 1));
-    low as u16 + 0x100 * high as u16
+    let high = rom_byte(rom, addr.wrapping_add(1));
+    u16::from_le_bytes([low, high])
 }
 
 // The next beat; the filling stops where the next address has no window.
@@ -134,7 +135,7 @@ fn arrive(buffer: PrefetchBuffer) -> PrefetchBuffer
     requires { buffer.count < 8 }
     ensures { result ≡ def.arrived buffer }
 {
-    let next_addr = std::num::wrapping_add_u32(buffer.next_addr, 2);
+    let next_addr = buffer.next_addr.wrapping_add(2);
     let head_addr = if buffer.count == 0 {
         buffer.next_addr
     } else {
@@ -217,6 +218,7 @@ pub fn tick_idle(
     }
     let mut current = ready(buffer, waits);
     let mut left = cycles;
+    // whole beats at a time, until the cycles are used up or the filling ends: there is no range to go through
     while left > 0 && current.filling {
         let step = left.min(current.wait_left);
         current = run_beat(current, halves, step, waits, rom);
@@ -260,7 +262,7 @@ fn take(buffer: PrefetchBuffer) -> PrefetchBuffer
     requires { 1 ≤ buffer.count }
     ensures { result ≡ def.taken buffer }
 {
-    let next = std::num::wrapping_add_u32(buffer.head_addr, 2);
+    let next = buffer.head_addr.wrapping_add(2);
     let head_addr = if buffer.count == 1 { 0 } else { next };
     PrefetchBuffer {
         head: (buffer.head % PREFETCH_CAPACITY + 1) % PREFETCH_CAPACITY,

@@ -18,7 +18,7 @@ fn told_value(kind: u8, value: u32) -> u32
     if kind == 7 { value } else { 0 }
 }
 
-// The value of an answer, by the kind of its record.
+// The value of an answer, which is a part of the caller's buffer, by the kind of its record.
 #[tactic(auto, unfolding(crate::specs::Values::value_bytes))]
 fn put_told(out: &mut [u8], kind: u8)
     requires { length out.old ≡ answer_length }

@@ -5,6 +5,7 @@ ghost use Rattle.model.specs.BoardBytes as def;
 use le::put32;
 use model::Answer;
 
+// Into a part of the caller's buffer: as an array it would have to be made one at each call.
 pub fn put_answer(out: &mut [u8], x: Answer)
     requires { length out.old ≡ def.answer_length }
     ensures { out.new ≡ def.answer_bytes x }

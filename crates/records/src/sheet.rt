@@ -1,6 +1,6 @@
 // A sheet: its header, its records, the steps they stand for, and the faults of a record. From document 01, "Sheet" and the
 // table of kinds.
-ghost use Rattle.std.specs.Prelude.{◌≡◌, ◌+◌, ◌*◌, ◌≤◌, length};
+ghost use Rattle.std.specs.Prelude.{◌≡◌, ◌+◌, ◌*◌, ◌≤◌, ◌<◌, length, unwrap_or, IfSome};
 ghost use Rattle.model.specs.Sheet as def;
 
 use le::{byte_at, half_at, read32};
@@ -33,10 +33,10 @@ pub fn version_of(sheet: &[u8]) -> u16
 pub fn rules_of(sheet: &[u8]) -> Version
     ensures { result ≡ def.rules_of sheet.now }
 {
-    if version_of(sheet) == 2 {
-        return Version::Two;
+    match version_of(sheet) {
+        2 => Version::Two,
+        _ => Version::One,
     }
-    Version::One
 }
 
 pub fn record_count(sheet: &[u8]) -> usize
@@ -79,10 +79,10 @@ pub fn record_at(sheet: &[u8], version: Version, k: usize) -> SheetRecord
 fn isa_state(size: u8) -> IsaState
     ensures { result ≡ def.isa_state size }
 {
-    if size == 2 {
-        return IsaState::Thumb;
+    match size {
+        2 => IsaState::Thumb,
+        _ => IsaState::Arm,
     }
-    IsaState::Arm
 }
 
 // The words of a block (W-207): as many as its value says, where that is 1 to 16.
@@ -93,56 +93,30 @@ pub fn words_of(value: u32) -> u32
     value.clamp(1, MAX_WORDS)
 }
 
-// The step of a record. Few tests stand in a row, so that the compiler makes no table of jumps of them: kinds follow each
-// other in no order, and a jump by the kind would often be guessed wrong.
+// The step of a record.
 #[tactic(auto, unfolding(model::specs::Sheet::step_of))]
 pub fn step_of(r: SheetRecord) -> Step
     ensures { result ≡ def.step_of r }
 {
-    let kind = r.kind;
-    if kind == 4 {
-        return Step::Idle(r.value);
-    }
-    if kind == 7 {
-        return Step::Instruction(
+    match r.kind {
+        1 => Step::Read(access_size(r.size as u32), r.address),
+        2 => Step::Write(access_size(r.size as u32), r.address, r.value),
+        3 => Step::Waitcnt((r.value % 0x1_0000) as u16),
+        4 => Step::Idle(r.value),
+        5 => Step::Fetch(r.address),
+        6 => Step::Restart(r.address),
+        7 => Step::Instruction(
             r.version,
             isa_state(r.size),
             r.address,
             r.value,
             r.flag == 1,
-        );
+        ),
+        8 => Step::Pc(r.address),
+        10 => Step::BlockRead(aligned(AccessSize::Word, r.address), words_of(r.value)),
+        11 => Step::BlockWrite(aligned(AccessSize::Word, r.address), words_of(r.value)),
+        _ => Step::Latch(r.value),
     }
-    if kind <= 2 {
-        if kind == 1 {
-            return Step::Read(access_size(r.size as u32), r.address);
-        }
-        if kind == 2 {
-            return Step::Write(access_size(r.size as u32), r.address, r.value);
-        }
-        return Step::Latch(r.value);
-    }
-    if kind <= 6 {
-        if kind == 3 {
-            return Step::Waitcnt((r.value % 0x1_0000) as u16);
-        }
-        if kind == 5 {
-            return Step::Fetch(r.address);
-        }
-        return Step::Restart(r.address);
-    }
-    if kind <= 9 {
-        if kind == 8 {
-            return Step::Pc(r.address);
-        }
-        return Step::Latch(r.value);
-    }
-    if kind == 10 {
-        return Step::BlockRead(aligned(AccessSize::Word, r.address), words_of(r.value));
-    }
-    if kind == 11 {
-        return Step::BlockWrite(aligned(AccessSize::Word, r.address), words_of(r.value));
-    }
-    Step::Latch(r.value)
 }
 
 // ---- the faults of a record
@@ -177,13 +151,14 @@ fn last_kind(version: Version) -> u8
     }
 }
 
-// The least faulty of n records, in one pass; n where there is none. A record is held against the row of its kind; the flag and
-// the zero byte behind it are one number. The kind is not branched on: kinds follow each other in no order, so that a branch
+// The least faulty of n records, if one is faulty, in one pass. A record is held against the row of its kind; the flag and the
+// zero byte behind it are one number. The kind is not branched on: kinds follow each other in no order, so that a branch
 // would often be guessed wrong. The table is put in place once, not for each record.
 #[tactic(auto, unfolding(model::specs::Sheet::records_from, model::specs::Sheet::first_of))]
-pub fn least_faulty(sheet: &[u8], n: usize) -> usize
+pub fn least_faulty(sheet: &[u8], n: usize) -> Option<usize>
     requires { def.header_length + def.record_length * n ≤ length sheet.now }
-    ensures { result ≡ def.least_faulty (def.records_from sheet.now 0 n) }
+    ensures first { unwrap_or result n ≡ def.least_faulty (def.records_from sheet.now 0 n) }
+    ensures within { IfSome result (λ k. k < n) }
 {
     let kinds = KINDS;
     let version = rules_of(sheet);
@@ -192,7 +167,7 @@ pub fn least_faulty(sheet: &[u8], n: usize) -> usize
         let r = record_at(sheet, version, k);
         // no row for the kind, or no bit for the size
         if (r.kind > last) | (r.size > 4) {
-            return k;
+            return Some(k);
         }
         let [sizes, flag, address, value, least] = kinds[r.kind as usize];
         let fits = ((sizes >> r.size as u32) % 2 == 1)
@@ -201,8 +176,8 @@ pub fn least_faulty(sheet: &[u8], n: usize) -> usize
             & (r.value <= value)
             & (least <= r.value);
         if !fits {
-            return k;
+            return Some(k);
         }
     }
-    n
+    None
 }

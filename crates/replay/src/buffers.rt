@@ -13,7 +13,7 @@ use crate::head::{Head, Operation};
 use crate::pattern;
 use crate::pattern::Buffer;
 use crate::sample::{BadSample, read_bytes};
-use bts::{Bill, Report};
+use bts::Bill;
 use model::Lengths;
 use std::alloc::Global;
 use std::io::Read;
@@ -30,21 +30,14 @@ pub struct Buffers {
     pub second: Vec<u8>,
 }
 
-// What has no tariff is told as a bill that charges nothing.
-fn uncharged(report: Report) -> Bill
-    ensures { result ≡ record { number = report.number; index = report.index; total = report.total; charge = 0 } }
-{
-    Bill {
-        number: report.number,
-        index: report.index,
-        total: report.total,
-        charge: 0,
-    }
-}
-
+// What has no tariff is told as a bill that charges nothing. A function an operation: their parameters are C's, each its own.
 impl Buffers {
     // Reads the sheet and the board, and makes the rest.
-    pub fn read<R: Read>(alloc: Global, input: &mut R, head: Head) -> Result<Buffers, BadSample>
+    pub(crate) fn read<R: Read>(
+        alloc: Global,
+        input: &mut R,
+        head: Head,
+    ) -> Result<Buffers, BadSample>
         ensures { IfOk result (IsSetUp head) }
     {
         let n = head.buffers;
@@ -64,7 +57,7 @@ impl Buffers {
         ensures { reported (given.uncharged result) self.new.board.items self.new.store.items self.new.answers.items
             ≡ outcome (given.lent_by x self.old) }
     {
-        uncharged(bts::bts_run(
+        bts::bts_run(
             &self.sheet,
             &mut self.board,
             &mut self.store,
@@ -78,7 +71,8 @@ impl Buffers {
             x.vram,
             x.oam,
             x.sram,
-        ))
+        )
+        .billed(0)
     }
 
     fn run_tariff(&mut self, x: Lengths, rate: u32) -> Bill
@@ -110,7 +104,7 @@ impl Buffers {
             self.new.answers.items self.new.second.items
             ≡ explain (record { run = given.lent_by x self.old; grounds = self.old.second.items }) }
     {
-        uncharged(bts::bts_run_grounds(
+        bts::bts_run_grounds(
             &self.sheet,
             &mut self.board,
             &mut self.store,
@@ -125,7 +119,8 @@ impl Buffers {
             x.vram,
             x.oam,
             x.sram,
-        ))
+        )
+        .billed(0)
     }
 
     fn preview(&mut self) -> Bill
@@ -137,11 +132,11 @@ impl Buffers {
               answers = self.old.answers.items;
             }) }
     {
-        uncharged(bts::bts_preview(&self.sheet, &self.board, &mut self.answers))
+        bts::bts_preview(&self.sheet, &self.board, &mut self.answers).billed(0)
     }
 
     // Does what the case asks.
-    pub fn run(&mut self, head: Head) -> Bill
+    pub(crate) fn run(&mut self, head: Head) -> Bill
         ensures { given.RanAs head.asked.operation head self.old result self.new }
     {
         let lengths = head.memories;

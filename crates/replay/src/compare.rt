@@ -93,7 +93,7 @@ impl<'a, P: Print + AllocGlobal> Case<'a, P> {
     }
 
     // Compares what a run left, in the sample's order.
-    pub fn compare<R: Read>(
+    pub(crate) fn compare<R: Read>(
         &self,
         input: &mut R,
         bill: Bill,

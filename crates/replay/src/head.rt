@@ -110,7 +110,7 @@ pub struct Head {
 }
 
 impl Head {
-    pub fn parse(head: &[u8]) -> Result<Head, BadSample>
+    pub(crate) fn parse(head: &[u8]) -> Result<Head, BadSample>
         ensures fits { IsOk result ↔ IsTrue (head_fits head.now) }
         ensures value { IfOk result (λ h. h ≡ head_of head.now) }
     {

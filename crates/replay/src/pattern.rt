@@ -24,7 +24,7 @@ pub fn byte_at(i: usize, seed: u32, buffer: Buffer) -> u8
     ((place + start) % 251) as u8
 }
 
-fn fill(out: &mut [u8], seed: u32, buffer: Buffer)
+pub fn fill(out: &mut [u8], seed: u32, buffer: Buffer)
     ensures { (k : ℕ) → k < length out.new → get_or out.new k 0 ≡ pattern_byte seed (tag_of buffer) k }
 {
     for (i, byte) in out.iter_mut().enumerate() {
@@ -33,7 +33,12 @@ fn fill(out: &mut [u8], seed: u32, buffer: Buffer)
 }
 
 // A buffer of this length as it is before the run.
-pub fn filled(alloc: Global, n: usize, seed: u32, buffer: Buffer) -> Result<Vec<u8>, AllocError>
+pub(crate) fn filled(
+    alloc: Global,
+    n: usize,
+    seed: u32,
+    buffer: Buffer,
+) -> Result<Vec<u8>, AllocError>
     ensures { IfOk result (λ v. IsFilled v.items n seed buffer) }
 {
     let mut bytes = vec![in alloc; 0; n]?;

@@ -32,7 +32,7 @@ impl From<AllocError> for BadSample {
     }
 }
 
-pub fn read_array<const N: usize, R: Read>(input: &mut R) -> Result<[u8; N], BadSample>
+pub(crate) fn read_array<const N: usize, R: Read>(input: &mut R) -> Result<[u8; N], BadSample>
     ensures { IfOk result (λ bytes. Consumes (R.remaining input.old) (R.remaining input.new) bytes) }
 {
     let mut bytes = [0u8; N];
@@ -40,21 +40,25 @@ pub fn read_array<const N: usize, R: Read>(input: &mut R) -> Result<[u8; N], Bad
     Ok(bytes)
 }
 
-pub fn read_u32<R: Read>(input: &mut R) -> Result<u32, BadSample>
+pub(crate) fn read_u32<R: Read>(input: &mut R) -> Result<u32, BadSample>
     ensures { IfOk result (λ n. (bytes : List ℕ) × (n ≡ from_le_bytes w32 bytes)
         × Consumes (R.remaining input.old) (R.remaining input.new) bytes) }
 {
     Ok(u32::from_le_bytes(read_array(input)?))
 }
 
-pub fn read_u64<R: Read>(input: &mut R) -> Result<u64, BadSample>
+pub(crate) fn read_u64<R: Read>(input: &mut R) -> Result<u64, BadSample>
     ensures { IfOk result (λ n. (bytes : List ℕ) × (n ≡ from_le_bytes w64 bytes)
         × Consumes (R.remaining input.old) (R.remaining input.new) bytes) }
 {
     Ok(u64::from_le_bytes(read_array(input)?))
 }
 
-pub fn read_bytes<R: Read>(alloc: Global, input: &mut R, n: usize) -> Result<Vec<u8>, BadSample>
+pub(crate) fn read_bytes<R: Read>(
+    alloc: Global,
+    input: &mut R,
+    n: usize,
+) -> Result<Vec<u8>, BadSample>
     ensures len { IfOk result (λ bytes. length bytes.items ≡ n) }
     ensures bytes { IfOk result (λ bytes. Consumes (R.remaining input.old) (R.remaining input.new) bytes.items) }
 {

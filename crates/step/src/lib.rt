@@ -100,7 +100,8 @@ fn bus<'a>(contents: Contents, store: &'a [u8], media: &'a Media<'a>) -> Bus<'a>
     }
 }
 
-// READ: `read8`, `read16`, `read32`.
+// READ: `read8`, `read16`, `read32`. What loads is lent store and media and makes its bus: handed a bus that was made before,
+// READ and WRITE took 1.08 of the Rust's time by turns, over the bar of 1.05, in place of 1.00.
 #[tactic(auto, using(crate::proofs::Laws::access_laws), unfolding(model::specs::Memory::target, model::specs::Price::data_beats))]
 fn read_step(
     machine: Machine,
@@ -131,28 +132,23 @@ fn read_step(
     }
 }
 
-fn with_counters(contents: Contents, vram: u64, oam: u64, palette: u64) -> Contents
-    ensures { result ≡ steps.with_counts contents vram oam palette }
-{
-    Contents {
-        vram_write_count: vram,
-        oam_write_count: oam,
-        palette_write_count: palette,
-        ..contents
-    }
-}
-
 // n halfwords go to the counter of a video memory, which stops at its greatest number.
 fn count_in(contents: Contents, memory: VideoMemory, n: u64) -> Contents
     ensures { result ≡ steps.counted_in memory n contents }
 {
-    let vram = contents.vram_write_count;
-    let oam = contents.oam_write_count;
-    let palette = contents.palette_write_count;
     match memory {
-        VideoMemory::PaletteRam => with_counters(contents, vram, oam, palette.saturating_add(n)),
-        VideoMemory::VideoRam => with_counters(contents, vram.saturating_add(n), oam, palette),
-        VideoMemory::ObjectRam => with_counters(contents, vram, oam.saturating_add(n), palette),
+        VideoMemory::PaletteRam => Contents {
+            palette_write_count: contents.palette_write_count.saturating_add(n),
+            ..contents
+        },
+        VideoMemory::VideoRam => Contents {
+            vram_write_count: contents.vram_write_count.saturating_add(n),
+            ..contents
+        },
+        VideoMemory::ObjectRam => Contents {
+            oam_write_count: contents.oam_write_count.saturating_add(n),
+            ..contents
+        },
     }
 }
 
@@ -171,7 +167,8 @@ fn count_store(contents: Contents, target: Target, n: u64) -> Contents
 }
 
 // WRITE: `write8`, `write16`, `write32`. The price comes first, so that the region need not be held through the store: the
-// whole run is quicker by it.
+// whole run is quicker by it. The store is a slice beside the lengths and no struct of both: what took one to write would promise
+// that it still lends the same slice, a clause for the one that it saves.
 #[tactic(auto, using(crate::proofs::Laws::access_laws), unfolding(model::specs::Memory::target, model::specs::Price::data_beats, model::specs::Store::puts, model::specs::Step::count_store))]
 fn write_step(
     machine: Machine,
@@ -228,44 +225,23 @@ fn block_cycles(waitcnt: u16, previous: Previous, addr: u32, words: u32) -> u32
         );
         from = Previous { addr: low, size: 4 };
         cycles += price;
-        at = std::num::wrapping_add_u32(at, 4);
+        at = at.wrapping_add(4);
     }
     cycles
 }
 
-// The address of a block's last word.
+// The address of a block's last word. The number of words is the step's, which is the definitions'; a block that held it within
+// its limits would be another step.
 fn last_of(addr: u32, words: u32) -> u32
     requires { (1 ≤ words) × (words ≤ max_words) }
     ensures { result ≡ further (4 * (words - 1)) addr }
 {
-    std::num::wrapping_add_u32(addr, 4 * (words - 1))
+    addr.wrapping_add(4 * (words - 1))
 }
 
-// The clock behind a block: its last word is the previous access.
+// BLOCK READ: `read32`, once a word. The last word is the answer, and the previous access from now on; a load changes nothing, so
+// that the others need not be loaded.
 #[tactic(auto, using(crate::proofs::Laws::block_laws))]
-fn block_clock(clock: Clock, addr: u32, words: u32) -> Clock
-    requires { (1 ≤ words) × (words ≤ max_words) }
-    ensures { result ≡ (steps.block_timed clock addr words).clock }
-{
-    accessed(
-        clock,
-        AccessSize::Word,
-        waits::aligned(AccessSize::Word, last_of(addr, words)),
-    )
-}
-
-// The last word of a block: a load changes nothing, so that the others need not be loaded.
-#[tactic(auto, using(crate::proofs::Laws::block_laws))]
-fn last_word(bus: &Bus<'_>, addr: u32, words: u32) -> u32
-    requires { (1 ≤ words) × (words ≤ max_words) }
-    ensures { result ≡ last_word_of bus.now.lengths bus.now.sees 0 addr words }
-{
-    let last = last_of(addr, words);
-    let target = parts::target_of(last, bus.lengths);
-    bus.read32(target, last)
-}
-
-// BLOCK READ: `read32`, once a word; the last word is the answer.
 fn block_read_step(
     machine: Machine,
     addr: u32,
@@ -280,8 +256,11 @@ fn block_read_step(
     let clock = machine.clock;
     let contents = machine.contents;
     let cycles = block_cycles(clock.waitcnt, clock.previous, addr, words);
-    let value = last_word(&bus(contents, store, media), addr, words);
-    let after = block_clock(clock, addr, words);
+    let last = last_of(addr, words);
+    let target = parts::target_of(last, media.lengths);
+    let value = bus(contents, store, media).read32(target, last);
+    let low = waits::aligned(AccessSize::Word, last);
+    let after = accessed(clock, AccessSize::Word, low);
     Begun {
         clock: after,
         idle: 0,
@@ -317,11 +296,11 @@ fn clear_words(
     let mut at = addr;
     for _ in 0..words {
         let target = parts::target_of(at, lengths);
-        let stored = stores::write(AccessSize::Word, target, at, 0, store, lengths);
+        let stored = stores::write_word(target, at, 0, store);
         let counted = count_store(held, target, stored.halfwords);
         held = counted;
         landed += stored.landed;
-        at = std::num::wrapping_add_u32(at, 4);
+        at = at.wrapping_add(4);
     }
     Zeroed {
         contents: held,
@@ -345,7 +324,8 @@ fn block_write_step(
     let clock = machine.clock;
     let cycles = block_cycles(clock.waitcnt, clock.previous, addr, words);
     let zeroed = clear_words(machine.contents, addr, words, store, lengths);
-    let after = block_clock(clock, addr, words);
+    let low = waits::aligned(AccessSize::Word, last_of(addr, words));
+    let after = accessed(clock, AccessSize::Word, low);
     let left = zeroed.contents;
     Begun {
         clock: after,
@@ -432,7 +412,8 @@ struct CodeFetch {
     hits: u8,
 }
 
-// A restart drains, so that a half that misses need not be fetched first.
+// A restart drains, so that a half that misses need not be fetched first. Not one function over the halves, of which ARM has two:
+// there the first tells of the second.
 #[tactic(auto, using(crate::proofs::Laws::fetch_laws))]
 fn fetch_thumb(buffer: PrefetchBuffer, addr: u32, waits: [[u8; 2]; 3]) -> CodeFetch
     ensures { result ≡ fetch_of waits buffer addr Thumb }
@@ -441,7 +422,7 @@ fn fetch_thumb(buffer: PrefetchBuffer, addr: u32, waits: [[u8; 2]; 3]) -> CodeFe
         let prefetch = prefetch::after_fetch(buffer, addr);
         return CodeFetch { prefetch, hits: 1 };
     }
-    let prefetch = prefetch::restart(buffer, std::num::wrapping_add_u32(addr, 2), waits);
+    let prefetch = prefetch::restart(buffer, addr.wrapping_add(2), waits);
     CodeFetch { prefetch, hits: 0 }
 }
 
@@ -450,8 +431,8 @@ fn fetch_thumb(buffer: PrefetchBuffer, addr: u32, waits: [[u8; 2]; 3]) -> CodeFe
 fn fetch_arm(buffer: PrefetchBuffer, addr: u32, waits: [[u8; 2]; 3]) -> CodeFetch
     ensures { result ≡ fetch_of waits buffer addr Arm }
 {
-    let next = std::num::wrapping_add_u32(addr, 2);
-    let after = std::num::wrapping_add_u32(addr, 4);
+    let next = addr.wrapping_add(2);
+    let after = addr.wrapping_add(4);
     if !prefetch::hits(buffer, addr) {
         let prefetch = prefetch::restart(buffer, after, waits);
         return CodeFetch { prefetch, hits: 0 };
@@ -481,7 +462,8 @@ fn fetch_code(buffer: PrefetchBuffer, isa: IsaState, addr: u32, waits: [[u8; 2];
     }
 }
 
-// INSTRUCTION: the price with the board's switch and force flag, then the fetches; the idle cycles are left to the caller.
+// INSTRUCTION: the price with the board's switch and force flag, then the fetches; the idle cycles are left to the caller. Its
+// parameters are the step's fields, one by one.
 #[tactic(auto, using(crate::proofs::Laws::access_laws), unfolding(model::specs::Step::code_clock, model::specs::Step::code_fetched, model::specs::Step::code_hits))]
 fn instruction_step(
     machine: Machine,
@@ -547,7 +529,7 @@ fn with_latch(contents: Contents, latch: u32) -> Contents
     }
 }
 
-// A step up to its idle cycles.
+// A step up to its idle cycles. A closure for each kind would be lent all that is lent here.
 fn begin(
     machine: Machine,
     waits: [[u8; 2]; 3],

@@ -3,7 +3,7 @@
 use mathlib.Core.Path.{◌≡◌, refl, ◌∙◌, ap, sym}
 use mathlib.Core.List.{List, []}
 use mathlib.Core.Bool.{Bool, true, false, not}
-use Prim.Native.Nat.{ℕ, ◌+◌, ◌-◌, ◌*◌, ◌%◌, ◌≤◌, ◌<◌}
+use Prim.Native.Nat.{ℕ, ◌-◌, ◌*◌, ◌%◌, ◌≤◌, ◌<◌}
 use native.Mathlib.Omega.{arith}
 use lib.ListN.{length}
 use lib.Dec.{ltb, leb, lit<, lit≤}
@@ -24,7 +24,7 @@ use Rattle.model.specs.declared.AccessSize.{AccessSize}
 use Rattle.model.specs.declared.AccessSize.TheVariants.{Byte, Half, Word}
 use Rattle.model.specs.declared.Part.{Part}
 use Rattle.stores.specs.Stored.{Filled, StoredVideo}
-use Rattle.parts.proofs.LentPart.{back, lent_of, put_moves, aligned_moves, video_moves, lent_stores}
+use Rattle.parts.proofs.LentPart.{back, lent_of, IsRange, put_moves, aligned_moves, video_moves, lent_stores}
 use Rattle.parts.specs.Stored.{store_report, Stores, whole, drops, same_puts, counting}
 use Rattle.parts.specs.declared.Stored.{Stored}
 use Rattle.model.specs.declared.VideoMemory.TheVariants.{VideoRam}
@@ -137,20 +137,21 @@ lane_lands p i a v z e f s = same_puts (ap (put p i) (f ∙ ap (λ (k : ℕ). by
 
 -- ---- what is stored in the memory that is met, which is lent, is stored at its address
 
-module _ (z : AccessSize) (a v mode : ℕ) {t : Target} {p : Part} {i : ℕ} {xs ys : List ℕ} {r : Stored} where
+module _ (z : AccessSize) (a v mode : ℕ) {t : Target} {p : Part} {i : ℕ} {xs ys : List ℕ} {r : Stored} {from to : ℕ}
+    (place : IsRange p from to) where
   pub plain_stored : t ≡ Plain p i → Lies (length xs) t
-      → Stores (put_aligned (whole (lent_of xs p)) i (size_bytes_of z) v) 0 (lent_of xs p) ys r
-      → Stores (puts_at mode z a v t) (video_count mode z t) xs (back xs p.base (p.base + p.size - p.base) ys) r
-  plain_stored e h s = rw e (lent_stores (aligned_moves i (size_bytes_of z) v) xs p (rw e at h).end s)
+      → Stores (put_aligned (whole (lent_of xs from to)) i (size_bytes_of z) v) 0 (lent_of xs from to) ys r
+      → Stores (puts_at mode z a v t) (video_count mode z t) xs (back xs from (to - from) ys) r
+  plain_stored e h s = rw e (lent_stores (aligned_moves i (size_bytes_of z) v) xs p place (rw e at h).end s)
 
   pub video_stored : {m : ℕ} {k : VideoMemory} → t ≡ Video k p i → Lies (length xs) t → m ≡ mode
-      → StoredVideo (fills m k i) z (whole (lent_of xs p)) i v (lent_of xs p) ys r
-      → Stores (puts_at mode z a v t) (video_count mode z t) xs (back xs p.base (p.base + p.size - p.base) ys) r
+      → StoredVideo (fills m k i) z (whole (lent_of xs from to)) i v (lent_of xs from to) ys r
+      → Stores (puts_at mode z a v t) (video_count mode z t) xs (back xs from (to - from) ys) r
   video_stored {m = m} {k = k} e h f s =
-      rw (e, ← f) (lent_stores (video_moves (fills m k i) z i v) xs p (rw e at h).end s)
+      rw (e, ← f) (lent_stores (video_moves (fills m k i) z i v) xs p place (rw e at h).end s)
 
   pub sram_stored : {n b : ℕ} → t ≡ Sram p i → Lies (length xs) t → n ≡ size_bytes_of z → b ≡ byte_of (a % n) v
-      → Stores (put (whole (lent_of xs p)) i b) 0 (lent_of xs p) ys r
-      → Stores (puts_at mode z a v t) (video_count mode z t) xs (back xs p.base (p.base + p.size - p.base) ys) r
+      → Stores (put (whole (lent_of xs from to)) i b) 0 (lent_of xs from to) ys r
+      → Stores (puts_at mode z a v t) (video_count mode z t) xs (back xs from (to - from) ys) r
   sram_stored {b = b} e h f g s =
-      rw e (lane_lands p i a v z f g (lent_stores (put_moves i b) xs p (rw e at h).end s))
+      rw e (lane_lands p i a v z f g (lent_stores (put_moves i b) xs p place (rw e at h).end s))

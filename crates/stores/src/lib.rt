@@ -9,7 +9,7 @@ ghost use Rattle.model.specs.Video.{fills};
 ghost use Rattle.model.specs.Store as def;
 ghost use Rattle.parts.specs.Stored.{Stores, whole};
 ghost use Rattle.model.specs.Laws.Places.{Lies};
-ghost use Rattle.stores.specs.Stored.{Filled, StoredVideo, StoredAt, Storable};
+ghost use Rattle.stores.specs.Stored.{Filled, StoredVideo, StoredAt, StoredWord, Storable};
 ghost use Rattle.model.specs.declared.VideoMemory.TheVariants.{VideoRam};
 ghost use Rattle.video.specs.Actions.{fills_halfword};
 
@@ -28,23 +28,17 @@ fn dispcnt_bg_mode(store: &[u8], lengths: Lengths) -> u8
     byte_at(memory(store, parts::io(lengths)), 0) % 8
 }
 
-// What stands at a place of VRAM, by the display mode; past its end a byte is dropped, as in object VRAM.
+// What video.rs calls the place in a memory, in VRAM by the display mode; past VRAM's end a byte is dropped, as in object VRAM.
 #[tactic(auto, unfolding(model::specs::Video::is_obj_vram, model::specs::Video::obj_vram_base, video::specs::Actions::vram_class))]
-fn vram_target(index: usize, mode: u8) -> VideoTarget
-    requires { index < 2 ^ 32 }
-    ensures { fills_halfword result ≡ fills mode VideoRam index }
-{
-    video::classify_vram_offset(index as u32, mode).unwrap_or(VideoTarget::ObjVram)
-}
-
-// What video.rs calls a memory.
 fn video_target(kind: VideoMemory, index: usize, mode: u8) -> VideoTarget
     requires { index < 2 ^ 32 }
     ensures { fills_halfword result ≡ fills mode kind index }
 {
     match kind {
         VideoMemory::PaletteRam => VideoTarget::Palette,
-        VideoMemory::VideoRam => vram_target(index, mode),
+        VideoMemory::VideoRam => {
+            video::classify_vram_offset(index as u32, mode).unwrap_or(VideoTarget::ObjVram)
+        }
         VideoMemory::ObjectRam => VideoTarget::Oam,
     }
 }
@@ -110,8 +104,7 @@ fn write_video(
 }
 
 // `write8`, `write16`, `write32`, by the size; the value's low bits are stored. The memory that is met is lent here, on to what
-// writes it. A block (W-207) stores its words by it too, and the compiler is to put it into both.
-#[inline(always)]
+// writes it.
 pub fn write(
     size: AccessSize,
     target: Target,
@@ -125,18 +118,34 @@ pub fn write(
 {
     match target {
         Target::Unused | Target::SystemRom | Target::GamePakRom => dropped(),
-        Target::Plain(part, index) => {
-            let memory = &mut store[part.base..part.base + part.size];
-            put_aligned(size, memory, index, value)
-        }
+        Target::Plain(part, index) => put_aligned(size, &mut store[part.range()], index, value),
         Target::Video(kind, part, index) => {
             let mode = dispcnt_bg_mode(store, lengths);
-            let memory = &mut store[part.base..part.base + part.size];
-            write_video(size, kind, memory, index, value, mode)
+            write_video(size, kind, &mut store[part.range()], index, value, mode)
         }
-        Target::Sram(part, index) => {
-            let memory = &mut store[part.base..part.base + part.size];
-            put(memory, index, lane(value, addr % size_bytes(size)))
+        Target::Sram(part, index) => put(
+            &mut store[part.range()],
+            index,
+            lane(value, addr % size_bytes(size)),
+        ),
+    }
+}
+
+// `write32`, for the words of a block (W-207): it does the same in every display mode, so that it needs no lengths. One `write`
+// for both is as quick, but it asks that the lengths add up to the store, which this one never did.
+pub fn write_word(target: Target, addr: u32, value: u32, store: &mut [u8]) -> Stored
+    requires { Lies (length store.old) target }
+    ensures { StoredWord addr value target store.old store.new result }
+{
+    match target {
+        Target::Unused | Target::SystemRom | Target::GamePakRom => dropped(),
+        Target::Plain(part, index) => {
+            put_aligned(AccessSize::Word, &mut store[part.range()], index, value)
         }
+        Target::Video(_, part, index) => Stored {
+            halfwords: 2,
+            ..put_aligned(AccessSize::Word, &mut store[part.range()], index, value)
+        },
+        Target::Sram(part, index) => { put(&mut store[part.range()], index, lane(value, addr % 4)) }
     }
 }

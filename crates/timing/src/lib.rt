@@ -72,7 +72,7 @@ fn price_rom(
     let first = price_rom_half(addr, window, kind, waits, prefetch);
     match isa {
         IsaState::Arm => {
-            let next = std::num::wrapping_add_u32(addr, 2);
+            let next = addr.wrapping_add(2);
             first + price_rom_half(next, window, AccessKind::Seq, waits, prefetch)
         }
         IsaState::Thumb => first,

@@ -92,7 +92,7 @@ pub fn size_bytes(size: AccessSize) -> u32
     1u32 << size as u32
 }
 
-// Back from the bytes, where they are 1, 2 or 4.
+// Back from the bytes, where they are 1, 2 or 4: the board and the sheet have bytes.
 #[tactic(auto, unfolding(model::specs::Wait::access_size_of))]
 pub fn access_size(bytes: u32) -> AccessSize
     ensures { result ≡ def.access_size_of bytes }
@@ -126,7 +126,7 @@ pub fn rom_force_nonseq(addr: u32) -> bool
     addr % ROM_FORCE_N_BLOCK == 0
 }
 
-// The kind of an access, by whether it is the first of a row.
+// The kind of an access, by whether it is the first of a row: the Rust's function, and a `From` would stand in model.
 pub fn nonseq_if(first: bool) -> AccessKind
     ensures { result ≡ def.nonseq_if first }
 {
@@ -153,7 +153,7 @@ pub fn classify_access(
     if in_window(next_addr) & rom_force_nonseq(next_addr) {
         return AccessKind::Nonseq;
     }
-    if next_addr == std::num::wrapping_add_u32(prev_addr, size_bytes(prev_size)) {
+    if next_addr == prev_addr.wrapping_add(size_bytes(prev_size)) {
         return AccessKind::Seq;
     }
     AccessKind::Nonseq
@@ -211,15 +211,21 @@ pub fn sram_byte_cycles(sram_waits: u8) -> u32
     cycles_for_waits(sram_waits)
 }
 
-// Two waits on a bus of 16 bits: a word takes two beats.
+// The beats of an access on a bus of 16 bits: without waits, its cycles.
+fn beats_on_16(size: AccessSize) -> u32
+    ensures { result ≡ def.video_ram_cycles size }
+{
+    match size {
+        AccessSize::Byte | AccessSize::Half => 1,
+        AccessSize::Word => 2,
+    }
+}
+
+// Two waits.
 pub fn ewram_cycles(size: AccessSize) -> u32
     ensures { result ≡ def.ewram_cycles size }
 {
-    let beat = 1 + EWRAM_DEFAULT_WAITS as u32;
-    match size {
-        AccessSize::Byte | AccessSize::Half => beat,
-        AccessSize::Word => beat * 2,
-    }
+    beats_on_16(size) * cycles_for_waits(EWRAM_DEFAULT_WAITS)
 }
 
 // BIOS, IWRAM, the registers and OAM have no waits.
@@ -229,12 +235,9 @@ pub fn fixed_fast_cycles() -> u32
     1
 }
 
-// Palette and VRAM: no waits on a bus of 16 bits.
+// Palette and VRAM: no waits.
 pub fn video_ram_cycles(size: AccessSize) -> u32
     ensures { result ≡ def.video_ram_cycles size }
 {
-    match size {
-        AccessSize::Byte | AccessSize::Half => 1,
-        AccessSize::Word => 2,
-    }
+    beats_on_16(size) * cycles_for_waits(0)
 }

@@ -106,6 +106,11 @@ number_is : (i : Lent) → (outcome i).number ≡ verdict_number (verdict i)
 unfolding outcome
 number_is i = by_number i (verdict i)
 
+-- what the verdict's number says of a row, the outcome's says
+pub exactly_row : (i : Lent) (k n : ℕ) → k < 7 → Exactly (verdict_number (verdict i) ≡ n) (Decides (rows i) k)
+    → Exactly ((outcome i).number ≡ n) (Decides (rows i) k)
+exactly_row i k n h e = (λ x. e.0 (sym (number_is i) ∙ x), λ d. number_is i ∙ e.1 d)
+
 -- each number exactly when its row decides
 pub run_table : (i : Lent) → TableOf (rows i) (outcome i).number
 unfolding verdict
