@@ -103,6 +103,7 @@ fn run_sheet<R: Print + Eprint>(rt: &R, sheet: &[u8]) -> io::Result<()> {
         MEMORIES.oam,
         MEMORIES.sram,
     );
+    // the report is C's: 0 is no refusal
     if report.number != 0 {
         say(rt, "the sheet is refused");
         return print_refusal(rt, report.number, report.index);

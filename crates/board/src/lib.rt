@@ -190,7 +190,7 @@ fn put_halves(out: &mut [u8], halves: [u16; 8])
     requires { length out.old ≡ 16 }
     ensures { out.new ≡ encoded (map (field 2) halves) }
 {
-    // by number: std's zipped chunks promise nothing of what is written in them
+    // by number: a halfword and the place of its two bytes
     for i in 0..8 {
         let at = 2 * i;
         put16(&mut out[at..at + 2], halves[i]);
