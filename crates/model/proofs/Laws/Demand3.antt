@@ -104,7 +104,7 @@ alike_steps s t e k (suc n) h =
 -- ---- alike boards have one clock
 
 -- numbers whose bytes agree, each from a place of its own on
-same_number_at : (n i k : ℕ) (b c : List ℕ)
+pub same_number_at : (n i k : ℕ) (b c : List ℕ)
     → ((j : ℕ) → j < n → byte_at b (i + j) ≡ byte_at c (k + j)) → number n b i ≡ number n c k
 same_number_at zero i k b c h = refl
 same_number_at (suc n) i k b c h =

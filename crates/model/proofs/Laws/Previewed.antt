@@ -1,21 +1,22 @@
 -- W-205, of bytes as lent: a preview is the run on a copy of the board, but for the named zeros, for all memories that the run
 -- accepts; when it is refused, and with what; and what two alike ones have. That the answers are the run's is the law of
 -- demand 3 (`run_blanked`), put into bytes.
-use Rattle.std.specs.Prelude.{◌≡◌, Bool, not, ◌≢◌, ℕ, ◌*◌, ◌≤◌, length, drop, eqb}
+use Rattle.std.specs.Prelude.{◌≡◌, Bool, not, ◌≢◌, ℕ, ◌*◌, ◌≤◌, ◌<◌, length, drop, eqb}
 use Rattle.std.proofs.Math.Path.{refl, sym, ap}
 use Rattle.std.proofs.Common.{ap₂, ◌∙◌, arith, lit<, ne_eqb}
+use Rattle.std.proofs.Math.ListN.{length-map, get_or-append}
 use Rattle.std.proofs.Math.Bool.{false≢true}
 use mathlib.Core.List.{List, [], ◌∷◌, ◌++◌, map, append_assoc}
 use Rattle.std.specs.Prelude.{if◌then◌else◌}
-use Rattle.model.specs.Base.{sum}
-use Rattle.model.specs.Step.{cycles_in, total}
+use Rattle.model.specs.Base.{sum, byte_at}
+use Rattle.model.specs.Step.{clock_after, cycles_in, total}
 use Rattle.model.specs.Sheet.{record_count, records_from, records_of, step_of, steps_of}
 use Rattle.model.specs.BoardBytes.{answer_length, clock_of, answer_bytes, answers_bytes}
 use Rattle.model.specs.Outcome.{Lent, row, first_row, sheet_rows, board_rows, answers_rows, records_rows}
 use Rattle.model.specs.Outcome.{sizes_fit, verdict, refusal_number, refusal_index, verdict_number}
 use Rattle.model.specs.Outcome.{media_of, first_state, ran, outcome_by, outcome}
 use Rattle.model.specs.Alike.{AlikeSheets, AlikeBoards, Limits}
-use Rattle.model.specs.Preview.{Asked, Previewed, preview_rows, preview_verdict, preview_answers, giving, preview_by, preview}
+use Rattle.model.specs.Preview.{previewed, Asked, Previewed, preview_rows, preview_verdict, preview_answers, giving, preview_by, preview}
 use Rattle.model.specs.Preview.{Memories, no_memories, lent_with, zeroed, each_answer, with_zeros, AsRun}
 use Rattle.model.proofs.Laws.Kinds.{by_kind}
 use Rattle.model.specs.Laws.Times.{blanked, each_step}
@@ -27,14 +28,17 @@ use Rattle.model.proofs.Laws.Rows.{refused_number, zero_accepted}
 use Rattle.model.specs.Laws.Refusal.{Index}
 use Rattle.model.proofs.Laws.Refusal.{index, by_number, table, accepted_faultless, seven_refusals}
 use Rattle.model.proofs.Laws.Fits.{answers_count}
-use Rattle.model.proofs.Laws.Demand3.{same_preview}
+use Rattle.model.proofs.Laws.Demand3.{same_preview, alike_count}
+use Rattle.model.proofs.Laws.Codec.{OfWidth, blocks_length}
+use Rattle.model.proofs.Laws.Choice.{all_of}
 use Rattle.model.specs.declared.Answer.{Answer}
+use Rattle.model.specs.declared.Clock.{Clock}
 use Rattle.model.specs.declared.SheetRecord.{SheetRecord}
 use Rattle.model.specs.declared.Refusal.{Refusal}
 use Rattle.model.specs.declared.Refusal.TheVariants.{BadLengths}
 use Rattle.model.specs.Verdict.{Verdict, Accepted, Refused}
 use Rattle.model.specs.declared.Step.{Step}
-use Rattle.model.specs.Laws.Previewed.{PreviewTable, Unwritten}
+use Rattle.model.specs.Laws.Previewed.{PreviewTable, Unwritten, SamePreview}
 
 -- ---- what is done to an answer's bytes is done to the answer
 
@@ -196,3 +200,40 @@ same_previews q r h g s b =
           ∙ ap (λ (ys : List Answer). sum (cycles_in ys)) same
           ∙ sym (ap (λ (p : Previewed). p.total) (accepted_preview r g)),
     )
+
+-- ---- of two calls, in the bytes of their answers
+
+previewed_length : (c : Clock) (xs : List Step) → length (previewed c xs) ≡ length xs
+unfolding previewed
+previewed_length c [] = refl
+previewed_length c (x ∷ xs) = rw (previewed_length (clock_after c x) xs)
+
+-- an answer a record
+as_many_bytes : (q : Asked) → length (answers_bytes (preview_answers q)) ≡ answer_length * record_count q.sheet
+unfolding preview_answers
+as_many_bytes q =
+    blocks_length answer_length answer_bytes (preview_answers q)
+    (all_of (OfWidth answer_length answer_bytes) (λ x. refl) (preview_answers q))
+    ∙ ap (λ (n : ℕ). answer_length * n)
+    (previewed_length (clock_of q.board) (steps_of q.sheet)
+    ∙ length-map (records_of q.sheet) step_of ∙ records_length q.sheet 0 (record_count q.sheet))
+
+-- a byte of them, as the call left it
+answer_byte : (q : Asked) (p : Previewed) → p ≡ preview q → p.number ≡ 0 → (j : ℕ) → j < answer_length * record_count q.sheet
+    → byte_at p.answers j ≡ byte_at (answers_bytes (preview_answers q)) j
+answer_byte q p e ok j h =
+    ap (λ (o : Previewed). byte_at o.answers j) (e ∙ accepted_preview q (sym (ap (λ (o : Previewed). o.number) e) ∙ ok))
+    ∙ get_or-append (answers_bytes (preview_answers q)) _ 0 j (omega (arith, as_many_bytes q))
+
+pub same_previewed : (q r : Asked) (p o : Previewed) → p ≡ preview q → o ≡ preview r → p.number ≡ 0 → o.number ≡ 0
+    → AlikeSheets q.sheet r.sheet → AlikeBoards q.board r.board → SamePreview q p o
+same_previewed q r p o e f h g s b =
+    let numbers = λ (x y : Previewed) (z : x ≡ y). ap (λ (v : Previewed). v.number) z in
+    let same = same_previews q r (sym (numbers p (preview q) e) ∙ h) (sym (numbers o (preview r) f) ∙ g) s b in
+    record {
+      answers = λ j l.
+          answer_byte q p e h j l
+          ∙ ap (λ (ys : List Answer). byte_at (answers_bytes ys) j) same.0
+          ∙ sym (answer_byte r o f g j (omega (arith, alike_count q.sheet r.sheet s)));
+      totals = ap (λ (v : Previewed). v.total) e ∙ same.1 ∙ sym (ap (λ (v : Previewed). v.total) f);
+    }

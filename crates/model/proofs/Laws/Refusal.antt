@@ -5,7 +5,7 @@ use Rattle.std.proofs.Common.{sym, ap, ◌∙◌, arith, lit<, le-ltb, ltb-true,
 use Rattle.std.proofs.lemmas.Bool.{not-false}
 use Rattle.model.specs.Base.{Exactly}
 use Rattle.model.specs.Sheet.{record_count}
-use Rattle.model.specs.Sheet.{record_at, records_from, records_of, faulty, first_of}
+use Rattle.model.specs.Sheet.{record_at, records_from, records_of, kind_fault, field_fault, faulty, first_of}
 use Rattle.model.specs.Outcome.{Lent, Outcome, fault_index, rows, verdict}
 use Rattle.model.specs.Outcome.{verdict_number, outcome_by, outcome}
 use Rattle.model.specs.Laws.Choice.{All}
@@ -19,7 +19,8 @@ use Rattle.model.specs.declared.Refusal.TheVariants.{BadMark, BadVersion, BadSha
 use Rattle.model.specs.declared.Refusal.TheVariants.{UnsoundBoard, ShortAnswers, FaultyRecord, BadRate}
 use Rattle.model.specs.declared.SheetRecord.{SheetRecord}
 use Rattle.model.specs.Verdict.{Verdict, Accepted, Refused}
-use Rattle.model.specs.Laws.Refusal.{FirstFault, NoFault, Table, Index, Acceptable, Untouched}
+use Rattle.model.specs.Laws.Refusal.{FirstFound, NoneFound, FirstFault, NoFault, FirstBy, LowerOfTwo}
+use Rattle.model.specs.Laws.Refusal.{Table, Index, Acceptable, Untouched}
 
 -- ---- the least faulty record
 
@@ -46,6 +47,13 @@ found_there f (r ∷ rs) d =
     choose (λ (n : ℕ). n < suc (length rs) → f (get_or (r ∷ rs) n d) ≡ true)
     (f r) (λ e h. e) (λ e h. found_there f rs d (omega arith))
 
+-- it is at most the number of records
+first_most : (f : SheetRecord → Bool) (rs : List SheetRecord) → first_of f rs ≤ length rs
+unfolding first_of
+first_most f [] = omega arith
+first_most f (r ∷ rs) =
+    choose (λ (n : ℕ). n ≤ suc (length rs)) (f r) (λ e. omega arith) (λ e. omega (arith, first_most f rs))
+
 -- the first that either of two tests finds is the lesser of what each finds: one pass or two
 pub first_either : (f g : SheetRecord → Bool) (rs : List SheetRecord)
     → first_of (λ (r : SheetRecord). f r || g r) rs ≡ min (first_of f rs) (first_of g rs)
@@ -63,26 +71,45 @@ record_in s k zero j d h = absurd (omega arith)
 record_in s k (suc n) zero d h = ap (record_at s) (omega arith)
 record_in s k (suc n) (suc j) d h = record_in s (k + 1) n j d (omega arith) ∙ ap (record_at s) (omega arith)
 
-module _ (s : List ℕ) where
-  -- a record of the list, by its number
-  listed : (k : ℕ) → k < record_count s → get_or (records_of s) k (record_at s 0) ≡ record_at s k
-  listed k h = record_in s 0 (record_count s) k (record_at s 0) h ∙ ap (record_at s) (omega arith)
+-- a record of the list, by its number
+listed : (s : List ℕ) (k : ℕ) → k < record_count s → get_or (records_of s) k (record_at s 0) ≡ record_at s k
+listed s k h = record_in s 0 (record_count s) k (record_at s 0) h ∙ ap (record_at s) (omega arith)
 
-  fine : (k : ℕ) → k < record_count s → k < fault_index s → faulty (record_at s k) ≡ false
-  fine k h l = ap faulty (sym (listed k h)) ∙ fine_before faulty (records_of s) (record_at s 0) k l
+module _ (f : SheetRecord → Bool) (s : List ℕ) where
+  -- the first record that a test finds
+  abbrev first : ℕ
+  first = first_of f (records_of s)
 
-  pub first_fault : fault_index s < record_count s → FirstFault s (fault_index s)
-  first_fault h =
+  fine : (k : ℕ) → k < record_count s → k < first → f (record_at s k) ≡ false
+  fine k h l = ap f (sym (listed s k h)) ∙ fine_before f (records_of s) (record_at s 0) k l
+
+  pub first_found : first < record_count s → FirstFound f s first
+  first_found h =
       record {
         within = h;
         there =
-            ap faulty (sym (listed (fault_index s) h))
-            ∙ found_there faulty (records_of s) (record_at s 0) (omega (arith, records_length s 0 (record_count s)));
+            ap f (sym (listed s first h))
+            ∙ found_there f (records_of s) (record_at s 0) (omega (arith, records_length s 0 (record_count s)));
         before = λ j l. fine j (omega arith) l;
       }
 
+  pub none_found : record_count s ≤ first → NoneFound f s
+  none_found h k l = fine k l (omega arith)
+
+  pub first_by : FirstBy f s first
+  first_by =
+      record {
+        found = first_found;
+        none = none_found;
+        most = omega (arith, first_most f (records_of s), records_length s 0 (record_count s));
+      }
+
+module _ (s : List ℕ) where
+  pub first_fault : fault_index s < record_count s → FirstFault s (fault_index s)
+  first_fault h = first_found faulty s h
+
   pub no_fault : record_count s ≤ fault_index s → NoFault s
-  no_fault h k l = fine k l (omega arith)
+  no_fault h = none_found faulty s h
 
   pub fault_none : NoFault s → record_count s ≤ fault_index s
   fault_none f =
@@ -92,6 +119,17 @@ module _ (s : List ℕ) where
       let z = sym (first_fault h).there ∙ f (fault_index s) h in
       let y : ◌≡◌ {A = ℕ} 0 1 = cc in absurd (omega arith))
       (λ e. ltb-false _ _ e)
+
+  -- W-203: the least faulty record is the lower of what the two walks find
+  pub lower_of_two : LowerOfTwo s (fault_index s)
+  lower_of_two =
+      record {
+        kinds = first_of kind_fault (records_of s);
+        fields = first_of field_fault (records_of s);
+        first_kind = first_by kind_fault s;
+        first_field = first_by field_fault s;
+        lower = first_either kind_fault field_fault (records_of s);
+      }
 
 -- ---- the rows
 
@@ -171,6 +209,11 @@ index i =
       faulty_record = λ h. fault_index_law i ((table i).records.0 h);
       accepted = λ h. ap (λ (o : Outcome). o.index) (was_accepted i h);
     }
+
+-- W-203, of an outcome: the record that 7 names
+pub faulty_lower : (i : Lent) → (outcome i).number ≡ 7 → LowerOfTwo i.sheet (outcome i).index
+unfolding outcome verdict
+faulty_lower i h = rw (decides_refusal (rows i) 6 ((table i).records.0 h)) (lower_of_two i.sheet)
 
 -- ---- an accepted run
 

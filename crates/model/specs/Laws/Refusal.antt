@@ -1,22 +1,45 @@
 -- Words of the laws in proofs/Laws/Refusal.antt, as definitions. Those laws:
 -- Document 01's table of what a run gives back, as theorems: each number exactly when its row's condition holds and no
 -- earlier one does; the index; and what a refusal leaves.
-use Rattle.std.specs.Prelude.{◌≡◌, true, false, ◌≢◌, List, ℕ, ◌*◌, ◌≤◌, ◌<◌, length}
+use Rattle.std.specs.Prelude.{◌≡◌, Bool, true, false, ◌≢◌, List, ℕ, ◌*◌, ◌≤◌, ◌<◌, min, length}
 use Rattle.model.specs.Base.{Exactly}
 use Rattle.model.specs.Sheet.{latest_version, knows, is_marked, version_of, is_shaped, record_count}
-use Rattle.model.specs.Sheet.{record_at, faulty}
+use Rattle.model.specs.Sheet.{record_at, kind_fault, field_fault, faulty}
 use Rattle.model.specs.BoardBytes.{answer_length, sound}
 use Rattle.model.specs.Outcome.{Lent, Outcome, sizes_fit, rows}
 use Rattle.model.specs.Laws.Rows.{Decides, NoneHolds}
+use Rattle.model.specs.declared.SheetRecord.{SheetRecord}
+
+-- record k is found by a test, and none before it is
+pub record FirstFound (f : SheetRecord → Bool) (s : List ℕ) (k : ℕ) : Type 0 where
+  pub within : k < record_count s
+  pub there : f (record_at s k) ≡ true
+  pub before : (j : ℕ) → j < k → f (record_at s j) ≡ false
+
+abbrev pub NoneFound : (SheetRecord → Bool) → List ℕ → Type 0
+NoneFound f s = (k : ℕ) → k < record_count s → f (record_at s k) ≡ false
 
 -- record k is faulty and none before it is
-pub record FirstFault (s : List ℕ) (k : ℕ) : Type 0 where
-  pub within : k < record_count s
-  pub there : faulty (record_at s k) ≡ true
-  pub before : (j : ℕ) → j < k → faulty (record_at s j) ≡ false
+abbrev pub FirstFault : List ℕ → ℕ → Type 0
+FirstFault s k = FirstFound faulty s k
 
 abbrev pub NoFault : List ℕ → Type 0
-NoFault s = (k : ℕ) → k < record_count s → faulty (record_at s k) ≡ false
+NoFault s = NoneFound faulty s
+
+-- a number is that of the first record that a test finds, or of records in all where it finds none
+pub record FirstBy (f : SheetRecord → Bool) (s : List ℕ) (n : ℕ) : Type 0 where
+  pub found : n < record_count s → FirstFound f s n
+  pub none : record_count s ≤ n → NoneFound f s
+  pub most : n ≤ record_count s
+
+-- W-203: a number is the lower of two, the first record with a fault of kind or size and the first with one of the other fields,
+-- as two walks over the records find them
+pub record LowerOfTwo (s : List ℕ) (k : ℕ) : Type 0 where
+  pub kinds : ℕ
+  pub fields : ℕ
+  pub first_kind : FirstBy kind_fault s kinds
+  pub first_field : FirstBy field_fault s fields
+  pub lower : k ≡ min kinds fields
 
 -- number r exactly when the condition of row r holds and no earlier one does; 0 exactly when none does
 pub record Table (i : Lent) (o : Outcome) : Type 0 where

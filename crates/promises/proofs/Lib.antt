@@ -1,0 +1,6 @@
+-- The laws behind the promises, by the same files.
+pub mod Run
+pub mod Tariff
+pub mod Preview
+pub mod Grounds
+pub mod Accesses

@@ -1,0 +1,107 @@
+-- The laws behind what is promised of a run: those of `outcome`, of any call of which the contract says that it is one.
+use Rattle.std.specs.Prelude.{◌≢◌, List, ℕ, ◌+◌, ◌*◌, ◌≤◌, ◌<◌}
+use Rattle.std.proofs.Common.{◌∙◌, sym, ap, arith, add_assoc}
+use Rattle.model.specs.Sheet.{record_at, record_count}
+use Rattle.model.specs.Alike.{AlikeSheets, Demand3}
+use Rattle.model.specs.Outcome.{Outcome}
+use Rattle.model.proofs.Laws.Refusal as refusal
+use Rattle.model.proofs.Laws.Fits.{board_sound, total_fits}
+use Rattle.model.proofs.Laws.Demand3 as demand
+use Rattle.model.proofs.Laws.Demand3.{same_number_at}
+use Rattle.model.proofs.Laws.Told.{told, block_told}
+use Rattle.model.proofs.Laws.VersionOne.{version_one}
+use Rattle.examine.specs.Verdicts.{few_index}
+use Rattle.promises.specs.Run.{EachNumber, NoOtherNumber, AcceptedExactly, IndexTold, FirstOfTwo, SmallIndex, RefusedUntouched}
+use Rattle.promises.specs.Run.{SoundLeft, SmallTotal, Accounted, SheetsAlike, SameFigures, SameTimes, LandedTold, BlockLandedTold, AsBefore}
+
+pub table : EachNumber
+unfolding EachNumber
+table i o call = rw call (refusal.table i)
+
+pub refusals : NoOtherNumber
+unfolding NoOtherNumber
+refusals i o call = rw call (refusal.seven_refusals i)
+
+pub accepts : AcceptedExactly
+unfolding AcceptedExactly
+accepts i o call = rw call (refusal.zero_exactly i)
+
+pub index : IndexTold
+unfolding IndexTold
+index i o call = rw call (refusal.index i)
+
+pub first_of_two : FirstOfTwo
+unfolding FirstOfTwo
+first_of_two i o call h = rw call (refusal.faulty_lower i (sym (ap (λ (x : Outcome). x.number) call) ∙ h))
+
+pub few_records : SmallIndex
+unfolding SmallIndex
+few_records i o call = rw call (few_index i.sheet (refusal.run_table i) (refusal.index i))
+
+pub refuses : RefusedUntouched
+unfolding RefusedUntouched
+refuses i o call = rw call (refusal.refused_untouched i)
+
+pub leaves_sound : SoundLeft
+unfolding SoundLeft
+leaves_sound i o call = rw call (board_sound i)
+
+pub small_total : SmallTotal
+unfolding SmallTotal
+small_total i o call = rw call (total_fits i)
+
+pub accounts : Accounted
+unfolding Accounted
+accounts i o call = demand.accounts i o call
+
+-- the sheets and boards that are alike in bytes are alike in the model's words
+alike_sheets : (s t : List ℕ) → SheetsAlike s t → AlikeSheets s t
+unfolding record_at
+alike_sheets s t h =
+    record {
+      header = h.header;
+      records = λ k l.
+          record {
+            kind = h.kinds k l;
+            size = h.sizes k l;
+            flag = h.flags k l;
+            address = h.addresses k l;
+            value = h.values k l;
+          };
+    }
+
+pub same_figures : SameFigures
+unfolding SameFigures record_at
+same_figures i j o p e f ok ok' s b =
+    let d : Demand3 i j o p = demand.demand3 i j o p e f ok ok' (alike_sheets i.sheet j.sheet s) b in
+    let compared = λ (k at : ℕ) (l : k < record_count i.sheet) (from : 4 ≤ at) (to : at ≤ 10) (other : at ≢ 8).
+    d.columns k at l
+    (record { from = from; to = to; but_landed = λ z. absurd (other z); but_block = λ z. absurd (other z) })
+    in
+    record {
+      cycles = λ k l.
+          same_number_at 4 (12 * k + 4) (12 * k + 4) o.answers p.answers
+          (λ n h. rw (add_assoc (12 * k) 4 n) (compared k (4 + n) l (omega arith) (omega arith) (omega arith)));
+      hits = λ k l w x.
+          d.columns k 8 l
+          (record { from = omega arith; to = omega arith; but_landed = λ z. w; but_block = λ z. x });
+      count = λ k l. compared k 9 l (omega arith) (omega arith) (omega arith);
+      force = λ k l. compared k 10 l (omega arith) (omega arith) (omega arith);
+      total = d.totals;
+    }
+
+pub same_times : SameTimes
+unfolding SameTimes
+same_times = demand.demand3
+
+pub landed_told : LandedTold
+unfolding LandedTold
+landed_told i o call ok k h z a v e = told i o call ok k h z a v e
+
+pub block_landed_told : BlockLandedTold
+unfolding BlockLandedTold
+block_landed_told i o call ok k h a n e = block_told i o call ok k h a n e
+
+pub as_before : AsBefore
+unfolding AsBefore
+as_before i o call one = call ∙ version_one i one

@@ -1,0 +1,49 @@
+-- What is promised of a run with the grounds of its prices (W-206). The contract of `bts_run_grounds` says of a call that was lent
+-- `e` and left `x` that `x ≡ explain e`; each statement here is of any such call.
+use Rattle.std.specs.Prelude.{◌≡◌, ◌≢◌, ◌≤◌}
+use Rattle.model.specs.Base.{Exactly}
+use Rattle.model.specs.Sheet.{max_records}
+use Rattle.model.specs.Outcome.{outcome}
+use Rattle.model.specs.Alike.{AlikeSheets, AlikeBoards}
+use Rattle.model.specs.Grounds.{Explaining, Explained, explain, Explains, SameGrounds}
+use Rattle.model.specs.Laws.Refusal.{Index}
+use Rattle.model.specs.Laws.Explained.{GroundsTable, GroundsAcceptable, GroundsRoom, Untold}
+
+-- each number exactly when its row of the table holds and no earlier one does, and 0 exactly when none does
+unfoldable pub ExplainedNumber : Type 0
+ExplainedNumber = (e : Explaining) (x : Explained) → x ≡ explain e → GroundsTable e x
+
+-- and no other number: the run's seven
+unfoldable pub NoOtherExplained : Type 0
+NoOtherExplained = (e : Explaining) (x : Explained) → x ≡ explain e → x.run.number ≤ 7
+
+-- number 0 exactly when the run's conditions hold and there is room for the grounds
+unfoldable pub ExplainAccepted : Type 0
+ExplainAccepted = (e : Explaining) (x : Explained) → x ≡ explain e → Exactly (x.run.number ≡ 0) (GroundsAcceptable e)
+
+-- the index
+unfoldable pub ExplainedIndex : Type 0
+ExplainedIndex = (e : Explaining) (x : Explained) → x ≡ explain e → Index e.run.sheet x.run.number x.run.index
+
+-- it fits its 32 bits
+unfoldable pub SmallExplainedIndex : Type 0
+SmallExplainedIndex = (e : Explaining) (x : Explained) → x ≡ explain e → x.run.index ≤ max_records
+
+-- a refusal gives total 0 and changes no byte, those of the grounds among them
+unfoldable pub RefusedUntold : Type 0
+RefusedUntold = (e : Explaining) (x : Explained) → x ≡ explain e → x.run.number ≢ 0 → Untold e x
+
+-- with room for the grounds it is the run's outcome, refused or not; so all that is promised of a run holds here
+unfoldable pub ExplainedRun : Type 0
+ExplainedRun = (e : Explaining) (x : Explained) → x ≡ explain e → GroundsRoom e → x.run ≡ outcome e.run
+
+-- an accepted run by itself: the grounds of each step, that they make its cycles, and that a ground is named exactly when its
+-- condition decides the beat
+unfoldable pub GroundsGiven : Type 0
+GroundsGiven = (e : Explaining) (x : Explained) → x ≡ explain e → x.run.number ≡ 0 → Explains e x
+
+-- any two accepted runs with alike sheets and boards, whatever memories they are lent: the same grounds, and all that demand 3 says
+unfoldable pub SameReasons : Type 0
+SameReasons =
+    (e f : Explaining) (x y : Explained) → x ≡ explain e → y ≡ explain f → x.run.number ≡ 0 → y.run.number ≡ 0
+    → AlikeSheets e.run.sheet f.run.sheet → AlikeBoards e.run.board f.run.board → SameGrounds e f x y

@@ -1,0 +1,6 @@
+-- The statements of the promises, by the function that they are about.
+pub mod Run
+pub mod Tariff
+pub mod Preview
+pub mod Grounds
+pub mod Accesses

@@ -1,0 +1,113 @@
+-- What is promised of a run. The contract of `bts_run` says of a call that was lent `i` and left `o` that `o ≡ outcome i`; each
+-- statement here is of any such call.
+use Rattle.std.specs.Prelude.{◌≡◌, ◌≢◌, true, List, ℕ, ◌+◌, ◌*◌, ◌≤◌, ◌<◌}
+use Rattle.model.specs.Base.{Exactly, byte_at, number}
+use Rattle.model.specs.Sheet.{max_records, version_of, record_at, record_count, step_of}
+use Rattle.model.specs.VersionOne.{outcome₁}
+use Rattle.model.specs.BoardBytes.{sound}
+use Rattle.model.specs.Outcome.{Lent, LentBytes, Outcome, outcome}
+use Rattle.model.specs.Alike.{AlikeSheets, AlikeBoards, Accounts, Demand3}
+use Rattle.model.specs.Laws.Refusal.{Table, Index, LowerOfTwo, Acceptable, Untouched}
+use Rattle.model.specs.Laws.Told.{Told, BlockTold}
+use Rattle.model.specs.declared.AccessSize.{AccessSize}
+use Rattle.model.specs.declared.Step.TheVariants.{Write, BlockWrite}
+
+-- ---- demand 1
+
+-- each number from 1 to 7 exactly when its row of the table holds and no earlier one does, and 0 exactly when none does
+unfoldable pub EachNumber : Type 0
+EachNumber = (i : Lent) (o : Outcome) → o ≡ outcome i → Table i o
+
+-- and no other number
+unfoldable pub NoOtherNumber : Type 0
+NoOtherNumber = (i : Lent) (o : Outcome) → o ≡ outcome i → o.number ≤ 7
+
+-- number 0 exactly when no condition of the table holds
+unfoldable pub AcceptedExactly : Type 0
+AcceptedExactly = (i : Lent) (o : Outcome) → o ≡ outcome i → Exactly (o.number ≡ 0) (Acceptable i)
+
+-- the index: 0 for 1 to 6, the first faulty record for 7, the number of records for 0
+unfoldable pub IndexTold : Type 0
+IndexTold = (i : Lent) (o : Outcome) → o ≡ outcome i → Index i.sheet o.number o.index
+
+-- W-203: the record that 7 names is the lower of the first with a fault of kind or size and the first with one of the other fields
+unfoldable pub FirstOfTwo : Type 0
+FirstOfTwo = (i : Lent) (o : Outcome) → o ≡ outcome i → o.number ≡ 7 → LowerOfTwo i.sheet o.index
+
+-- the index fits its 32 bits
+unfoldable pub SmallIndex : Type 0
+SmallIndex = (i : Lent) (o : Outcome) → o ≡ outcome i → o.index ≤ max_records
+
+-- a refusal gives total 0 and changes no byte
+unfoldable pub RefusedUntouched : Type 0
+RefusedUntouched = (i : Lent) (o : Outcome) → o ≡ outcome i → o.number ≢ 0 → Untouched i o
+
+-- an accepted run leaves a sound board
+unfoldable pub SoundLeft : Type 0
+SoundLeft = (i : Lent) (o : Outcome) → o ≡ outcome i → LentBytes i → o.number ≡ 0 → sound o.board ≡ true
+
+-- its total is far from 64 bits
+unfoldable pub SmallTotal : Type 0
+SmallTotal = (i : Lent) (o : Outcome) → o ≡ outcome i → LentBytes i → o.number ≡ 0 → o.total ≤ max_records * 0xFFFF_FFFF
+
+-- ---- demand 3
+
+-- two sheets are alike: they agree in bytes 0 to 7 and, record by record, in kind, size, flag and address, and, but for WRITE (2)
+-- and LATCH (9), in value
+pub record SheetsAlike (s t : List ℕ) : Type 0 where
+  pub header : (i : ℕ) → i < 8 → byte_at s i ≡ byte_at t i
+  pub kinds : (k : ℕ) → k < record_count s → byte_at s (8 + 12 * k) ≡ byte_at t (8 + 12 * k)
+  pub sizes : (k : ℕ) → k < record_count s → byte_at s (8 + 12 * k + 1) ≡ byte_at t (8 + 12 * k + 1)
+  pub flags : (k : ℕ) → k < record_count s → byte_at s (8 + 12 * k + 2) ≡ byte_at t (8 + 12 * k + 2)
+  pub addresses : (k : ℕ) → k < record_count s → number 4 s (8 + 12 * k + 4) ≡ number 4 t (8 + 12 * k + 4)
+  pub values : (k : ℕ) → k < record_count s → byte_at s (8 + 12 * k) ≢ 2 → byte_at s (8 + 12 * k) ≢ 9
+      → number 4 s (8 + 12 * k + 8) ≡ number 4 t (8 + 12 * k + 8)
+
+-- two boards are alike: they agree outside bytes 20 to 35, the halfwords, and 40 to 67, the latch and the counters
+abbrev pub BoardsAlike : List ℕ → List ℕ → Type 0
+BoardsAlike b c = (i : ℕ) → i < 80 → ¬ ((20 ≤ i) × (i ≤ 35)) → ¬ ((40 ≤ i) × (i ≤ 67)) → byte_at b i ≡ byte_at c i
+
+-- the figures that two runs agree in: of each step the cycles, the hits, but of a WRITE (2) and a BLOCK WRITE (11), whose hits are
+-- the bytes that land, the prefetch count and the force flag; and the total
+pub record FiguresAgree (sheet : List ℕ) (o p : Outcome) : Type 0 where
+  pub cycles : (k : ℕ) → k < record_count sheet → number 4 o.answers (12 * k + 4) ≡ number 4 p.answers (12 * k + 4)
+  pub hits : (k : ℕ) → k < record_count sheet → byte_at sheet (8 + 12 * k) ≢ 2 → byte_at sheet (8 + 12 * k) ≢ 11
+      → byte_at o.answers (12 * k + 8) ≡ byte_at p.answers (12 * k + 8)
+  pub count : (k : ℕ) → k < record_count sheet → byte_at o.answers (12 * k + 9) ≡ byte_at p.answers (12 * k + 9)
+  pub force : (k : ℕ) → k < record_count sheet → byte_at o.answers (12 * k + 10) ≡ byte_at p.answers (12 * k + 10)
+  pub total : o.total ≡ p.total
+
+-- in bytes and numbers alone: any two accepted runs whose sheets and first boards are alike, whatever memories they are lent, agree
+-- in these figures
+unfoldable pub SameFigures : Type 0
+SameFigures =
+    (i j : Lent) (o p : Outcome) → o ≡ outcome i → p ≡ outcome j → o.number ≡ 0 → p.number ≡ 0
+    → SheetsAlike i.sheet j.sheet → BoardsAlike i.board j.board → FiguresAgree i.sheet o p
+
+-- an accepted run by itself: each answer as the definitions have it, the total as the sum of their cycles, and the limits
+unfoldable pub Accounted : Type 0
+Accounted = (i : Lent) (o : Outcome) → o ≡ outcome i → o.number ≡ 0 → Accounts i o
+
+-- the whole of demand 3, in the model's words: this of every byte that is compared, and what each run has by itself
+unfoldable pub SameTimes : Type 0
+SameTimes =
+    (i j : Lent) (o p : Outcome) → o ≡ outcome i → p ≡ outcome j → o.number ≡ 0 → p.number ≡ 0
+    → AlikeSheets i.sheet j.sheet → AlikeBoards i.board j.board → Demand3 i j o p
+
+-- ---- the requests
+
+-- W-201: byte 8 of a WRITE's answer is the number of memory bytes that its store wrote
+unfoldable pub LandedTold : Type 0
+LandedTold =
+    (i : Lent) (o : Outcome) → o ≡ outcome i → o.number ≡ 0 → (k : ℕ) → k < record_count i.sheet
+    → (z : AccessSize) (a v : ℕ) → step_of (record_at i.sheet k) ≡ Write z a v → Told i o k z a v
+
+-- W-207: that of a BLOCK WRITE's is the number that its words' stores wrote
+unfoldable pub BlockLandedTold : Type 0
+BlockLandedTold =
+    (i : Lent) (o : Outcome) → o ≡ outcome i → o.number ≡ 0 → (k : ℕ) → k < record_count i.sheet
+    → (a n : ℕ) → step_of (record_at i.sheet k) ≡ BlockWrite a n → BlockTold i o k a n
+
+-- W-207: a version 1 sheet means what it did before there was a version 2
+unfoldable pub AsBefore : Type 0
+AsBefore = (i : Lent) (o : Outcome) → o ≡ outcome i → version_of i.sheet ≡ 1 → o ≡ outcome₁ i

@@ -1,0 +1,325 @@
+// What is promised of the four exported functions beyond the equation that each one's contract is. A promise is the contract of a
+// function that does nothing, by name: its statement stands in specs/, in the file of the same name, and the law that proves it in
+// proofs/, by the function's name.
+#![tactic(auto)]
+
+ghost use Rattle.promises.specs.Run as run;
+ghost use Rattle.promises.specs.Tariff as tariff;
+ghost use Rattle.promises.specs.Preview as preview;
+ghost use Rattle.promises.specs.Grounds as grounds;
+ghost use Rattle.promises.specs.Accesses as accesses;
+
+// ---- demand 1
+
+// Each number from 1 to 7 exactly when its row of the table holds and no earlier one does, and 0 exactly when none does.
+#[tactic(auto, using(crate::proofs::Run::table))]
+pub fn table()
+    ensures { run.EachNumber }
+{}
+
+// And no other number.
+#[tactic(auto, using(crate::proofs::Run::refusals))]
+pub fn refusals()
+    ensures { run.NoOtherNumber }
+{}
+
+// Number 0 exactly when no condition of the table holds.
+#[tactic(auto, using(crate::proofs::Run::accepts))]
+pub fn accepts()
+    ensures { run.AcceptedExactly }
+{}
+
+// The index: 0 for 1 to 6, the first faulty record for 7, the number of records for 0.
+#[tactic(auto, using(crate::proofs::Run::index))]
+pub fn index()
+    ensures { run.IndexTold }
+{}
+
+// W-203: the record that 7 names is the lower of the first with a fault of kind or size and the first with one of the other
+// fields.
+#[tactic(auto, using(crate::proofs::Run::first_of_two))]
+pub fn first_of_two()
+    ensures { run.FirstOfTwo }
+{}
+
+// The index fits its 32 bits.
+#[tactic(auto, using(crate::proofs::Run::few_records))]
+pub fn few_records()
+    ensures { run.SmallIndex }
+{}
+
+// A refusal gives total 0 and changes no byte.
+#[tactic(auto, using(crate::proofs::Run::refuses))]
+pub fn refuses()
+    ensures { run.RefusedUntouched }
+{}
+
+// An accepted run leaves a sound board.
+#[tactic(auto, using(crate::proofs::Run::leaves_sound))]
+pub fn leaves_sound()
+    ensures { run.SoundLeft }
+{}
+
+// Its total is far from 64 bits.
+#[tactic(auto, using(crate::proofs::Run::small_total))]
+pub fn small_total()
+    ensures { run.SmallTotal }
+{}
+
+// ---- demand 3
+
+// In bytes and numbers alone: any two accepted runs whose sheets and first boards are alike, whatever memories they are lent,
+// agree in these figures.
+#[tactic(auto, using(crate::proofs::Run::same_figures))]
+pub fn same_figures()
+    ensures { run.SameFigures }
+{}
+
+// An accepted run by itself: each answer as the definitions have it, the total as the sum of their cycles, and the limits.
+#[tactic(auto, using(crate::proofs::Run::accounts))]
+pub fn accounts()
+    ensures { run.Accounted }
+{}
+
+// The whole of demand 3, in the model's words: this of every byte that is compared, and what each run has by itself.
+#[tactic(auto, using(crate::proofs::Run::same_times))]
+pub fn same_times()
+    ensures { run.SameTimes }
+{}
+
+// ---- the requests
+
+// W-201: byte 8 of a WRITE's answer is the number of memory bytes that its store wrote.
+#[tactic(auto, using(crate::proofs::Run::landed_told))]
+pub fn landed_told()
+    ensures { run.LandedTold }
+{}
+
+// W-207: that of a BLOCK WRITE's is the number that its words' stores wrote.
+#[tactic(auto, using(crate::proofs::Run::block_landed_told))]
+pub fn block_landed_told()
+    ensures { run.BlockLandedTold }
+{}
+
+// W-207: a version 1 sheet means what it did before there was a version 2.
+#[tactic(auto, using(crate::proofs::Run::as_before))]
+pub fn as_before()
+    ensures { run.AsBefore }
+{}
+
+// Each number exactly when its row of the tariff's table holds and no earlier one does, and 0 exactly when none does.
+#[tactic(auto, using(crate::proofs::Tariff::tariff_table))]
+pub fn tariff_table()
+    ensures { tariff.BilledNumber }
+{}
+
+// And no other number.
+#[tactic(auto, using(crate::proofs::Tariff::tariff_refusals))]
+pub fn tariff_refusals()
+    ensures { tariff.NoOtherBilled }
+{}
+
+// Number 0 exactly when the run's conditions hold, there is room for the shares and the rate is fair.
+#[tactic(auto, using(crate::proofs::Tariff::tariff_accepts))]
+pub fn tariff_accepts()
+    ensures { tariff.BillAccepted }
+{}
+
+// Number 8 exactly when the rate is not fair and nothing else is wrong.
+#[tactic(auto, using(crate::proofs::Tariff::refuses_rate))]
+pub fn refuses_rate()
+    ensures { tariff.RateRefused }
+{}
+
+// The index: 0 for 8 too.
+#[tactic(auto, using(crate::proofs::Tariff::tariff_index))]
+pub fn tariff_index()
+    ensures { tariff.BilledIndex }
+{}
+
+// It fits its 32 bits.
+#[tactic(auto, using(crate::proofs::Tariff::tariff_few_records))]
+pub fn tariff_few_records()
+    ensures { tariff.SmallBilledIndex }
+{}
+
+// A refusal gives total and charge 0 and changes no byte, the shares' among them.
+#[tactic(auto, using(crate::proofs::Tariff::tariff_refuses))]
+pub fn tariff_refuses()
+    ensures { tariff.RefusedUnbilled }
+{}
+
+// With room for the shares and a fair rate it is the run's outcome, refused or not; so all that is promised of a run holds
+// here.
+#[tactic(auto, using(crate::proofs::Tariff::whole_run))]
+pub fn whole_run()
+    ensures { tariff.BilledRun }
+{}
+
+// An accepted run by itself: its charge, its shares, their sum and bounds, and that nothing wraps.
+#[tactic(auto, using(crate::proofs::Tariff::bills))]
+pub fn bills()
+    ensures { tariff.BilledFairly }
+{}
+
+// Any two accepted runs under one rate with alike sheets and boards, whatever memories they are lent: the same shares and
+// charge, and all that demand 3 says.
+#[tactic(auto, using(crate::proofs::Tariff::same_bills))]
+pub fn same_bills()
+    ensures { tariff.SameBills }
+{}
+
+// For all memories that the run accepts it is the run on a copy of the board, but for the named zeros, and it is accepted
+// exactly when the run with some memories is.
+#[tactic(auto, using(crate::proofs::Preview::as_run))]
+pub fn as_run()
+    ensures { preview.PreviewIsRun }
+{}
+
+// Each number exactly when its row of the preview's table holds and no earlier one does, and 0 exactly when none does.
+#[tactic(auto, using(crate::proofs::Preview::preview_table))]
+pub fn preview_table()
+    ensures { preview.PreviewedNumber }
+{}
+
+// And no other number: the run's, without 4.
+#[tactic(auto, using(crate::proofs::Preview::preview_refusals))]
+pub fn preview_refusals()
+    ensures { preview.NoOtherPreviewed }
+{}
+
+// The index.
+#[tactic(auto, using(crate::proofs::Preview::preview_index))]
+pub fn preview_index()
+    ensures { preview.PreviewedIndex }
+{}
+
+// It fits its 32 bits.
+#[tactic(auto, using(crate::proofs::Preview::preview_few_records))]
+pub fn preview_few_records()
+    ensures { preview.SmallPreviewedIndex }
+{}
+
+// Sheet and board are as lent, and a refusal gives total 0 and changes no byte of the answers.
+#[tactic(auto, using(crate::proofs::Preview::preview_leaves))]
+pub fn preview_leaves()
+    ensures { preview.PreviewUnwritten }
+{}
+
+// An accepted one: demand 3's limits.
+#[tactic(auto, using(crate::proofs::Preview::preview_limits))]
+pub fn preview_limits()
+    ensures { preview.PreviewLimits }
+{}
+
+// Any two accepted ones with alike sheets and boards: every byte of their answers, and the total.
+#[tactic(auto, using(crate::proofs::Preview::same_previews))]
+pub fn same_previews()
+    ensures { preview.SamePreviews }
+{}
+
+// Each number exactly when its row of the table holds and no earlier one does, and 0 exactly when none does.
+#[tactic(auto, using(crate::proofs::Grounds::grounds_table))]
+pub fn grounds_table()
+    ensures { grounds.ExplainedNumber }
+{}
+
+// And no other number: the run's seven.
+#[tactic(auto, using(crate::proofs::Grounds::grounds_refusals))]
+pub fn grounds_refusals()
+    ensures { grounds.NoOtherExplained }
+{}
+
+// Number 0 exactly when the run's conditions hold and there is room for the grounds.
+#[tactic(auto, using(crate::proofs::Grounds::grounds_accepts))]
+pub fn grounds_accepts()
+    ensures { grounds.ExplainAccepted }
+{}
+
+// The index.
+#[tactic(auto, using(crate::proofs::Grounds::grounds_index))]
+pub fn grounds_index()
+    ensures { grounds.ExplainedIndex }
+{}
+
+// It fits its 32 bits.
+#[tactic(auto, using(crate::proofs::Grounds::grounds_few_records))]
+pub fn grounds_few_records()
+    ensures { grounds.SmallExplainedIndex }
+{}
+
+// A refusal gives total 0 and changes no byte, those of the grounds among them.
+#[tactic(auto, using(crate::proofs::Grounds::grounds_refuses))]
+pub fn grounds_refuses()
+    ensures { grounds.RefusedUntold }
+{}
+
+// With room for the grounds it is the run's outcome, refused or not; so all that is promised of a run holds here.
+#[tactic(auto, using(crate::proofs::Grounds::grounds_whole_run))]
+pub fn grounds_whole_run()
+    ensures { grounds.ExplainedRun }
+{}
+
+// An accepted run by itself: the grounds of each step, that they make its cycles, and that a ground is named exactly when its
+// condition decides the beat.
+#[tactic(auto, using(crate::proofs::Grounds::explains))]
+pub fn explains()
+    ensures { grounds.GroundsGiven }
+{}
+
+// Any two accepted runs with alike sheets and boards, whatever memories they are lent: the same grounds, and all that demand 3
+// says.
+#[tactic(auto, using(crate::proofs::Grounds::same_grounds))]
+pub fn same_grounds()
+    ensures { grounds.SameReasons }
+{}
+
+// Without a previous access every price is that of a first beat taken as nonsequential: in ROM N, of a word N + S.
+#[tactic(auto, using(crate::proofs::Accesses::first_cost))]
+pub fn first_cost()
+    ensures { accesses.FirstAccess }
+{}
+
+// Outside ROM it is so after any access.
+#[tactic(auto, using(crate::proofs::Accesses::plain_cost))]
+pub fn plain_cost()
+    ensures { accesses.PlainAccess }
+{}
+
+// An access that goes on in ROM where the one before ended, and begins no block, costs S, of a word 2 S, whatever was read or
+// written.
+#[tactic(auto, using(crate::proofs::Accesses::continued_cost))]
+pub fn continued_cost()
+    ensures { accesses.ContinuedAccess }
+{}
+
+// And no other access in ROM is sequential.
+#[tactic(auto, using(crate::proofs::Accesses::sequential_exactly))]
+pub fn sequential_exactly()
+    ensures { accesses.SequentialExactly }
+{}
+
+// Two words in a row within a block of ROM, of which the first is nonsequential, cost N + 3 S.
+#[tactic(auto, using(crate::proofs::Accesses::two_words))]
+pub fn two_words()
+    ensures { accesses.TwoWords }
+{}
+
+// What an access costs depends on WAITCNT, the previous access and itself: on no earlier one, and on nothing that is read or
+// written.
+#[tactic(auto, using(crate::proofs::Accesses::only_the_previous))]
+pub fn only_the_previous()
+    ensures { accesses.ByPreviousAlone }
+{}
+
+// READ, WRITE and the words of a block set the previous access, IDLE, PC and LATCH keep it, the other four clear it.
+#[tactic(auto, using(crate::proofs::Accesses::previous_after_law))]
+pub fn previous_after_law()
+    ensures { accesses.PreviousAfter }
+{}
+
+// An access costs 1 to 18 cycles after any other.
+#[tactic(auto, using(crate::proofs::Accesses::data_between))]
+pub fn data_between()
+    ensures { accesses.AccessLimits }
+{}
