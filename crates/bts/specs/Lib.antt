@@ -1,6 +1,5 @@
--- What the contracts of this crate cite, beside the model, and what follows from the exported one.
+-- What the contracts of this crate cite, beside the model.
 pub mod Beginning
 pub mod Told
 pub mod Reported
 pub mod Explained
-pub mod Promises
