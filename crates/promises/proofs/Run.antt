@@ -8,11 +8,11 @@ use Rattle.model.proofs.Laws.Refusal as refusal
 use Rattle.model.proofs.Laws.Fits.{board_sound, total_fits}
 use Rattle.model.proofs.Laws.Demand3 as demand
 use Rattle.model.proofs.Laws.Demand3.{same_number_at}
-use Rattle.model.proofs.Laws.Told.{told, block_told}
+use Rattle.model.proofs.Laws.Told.{told, told_alike, block_told}
 use Rattle.model.proofs.Laws.VersionOne.{version_one}
 use Rattle.examine.specs.Verdicts.{few_index}
 use Rattle.promises.specs.Run.{EachNumber, NoOtherNumber, AcceptedExactly, IndexTold, FirstOfTwo, SmallIndex, RefusedUntouched}
-use Rattle.promises.specs.Run.{SoundLeft, SmallTotal, Accounted, SheetsAlike, SameFigures, SameTimes, LandedTold, BlockLandedTold, AsBefore}
+use Rattle.promises.specs.Run.{SoundLeft, SmallTotal, Accounted, SheetsAlike, SameFigures, WholeDemand3, LandedTold, LandedAlike, BlockLandedTold, AsBefore}
 
 pub table : EachNumber
 unfolding EachNumber
@@ -90,13 +90,17 @@ same_figures i j o p e f ok ok' s b =
       total = d.totals;
     }
 
-pub same_times : SameTimes
-unfolding SameTimes
+pub same_times : WholeDemand3
+unfolding WholeDemand3
 same_times = demand.demand3
 
 pub landed_told : LandedTold
 unfolding LandedTold
 landed_told i o call ok k h z a v e = told i o call ok k h z a v e
+
+pub landed_alike : LandedAlike
+unfolding LandedAlike
+landed_alike = told_alike
 
 pub block_landed_told : BlockLandedTold
 unfolding BlockLandedTold

@@ -4,3 +4,4 @@ pub mod Tariff
 pub mod Preview
 pub mod Grounds
 pub mod Accesses
+pub mod Figures

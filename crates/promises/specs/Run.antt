@@ -6,9 +6,10 @@ use Rattle.model.specs.Sheet.{max_records, version_of, record_at, record_count, 
 use Rattle.model.specs.VersionOne.{outcome₁}
 use Rattle.model.specs.BoardBytes.{sound}
 use Rattle.model.specs.Outcome.{Lent, LentBytes, Outcome, outcome}
-use Rattle.model.specs.Alike.{AlikeSheets, AlikeBoards, Accounts, Demand3}
+use Rattle.model.specs.Alike.{AlikeSheets, AlikeBoards, state_at, Accounts, Demand3}
 use Rattle.model.specs.Laws.Refusal.{Table, Index, LowerOfTwo, Acceptable, Untouched}
-use Rattle.model.specs.Laws.Told.{Told, BlockTold}
+use Rattle.model.specs.Store.{mode_of}
+use Rattle.model.specs.Laws.Told.{hits_byte, Told, BlockTold}
 use Rattle.model.specs.declared.AccessSize.{AccessSize}
 use Rattle.model.specs.declared.Step.TheVariants.{Write, BlockWrite}
 
@@ -89,8 +90,8 @@ unfoldable pub Accounted : Type 0
 Accounted = (i : Lent) (o : Outcome) → o ≡ outcome i → o.number ≡ 0 → Accounts i o
 
 -- the whole of demand 3, in the model's words: this of every byte that is compared, and what each run has by itself
-unfoldable pub SameTimes : Type 0
-SameTimes =
+unfoldable pub WholeDemand3 : Type 0
+WholeDemand3 =
     (i j : Lent) (o p : Outcome) → o ≡ outcome i → p ≡ outcome j → o.number ≡ 0 → p.number ≡ 0
     → AlikeSheets i.sheet j.sheet → AlikeBoards i.board j.board → Demand3 i j o p
 
@@ -101,6 +102,15 @@ unfoldable pub LandedTold : Type 0
 LandedTold =
     (i : Lent) (o : Outcome) → o ≡ outcome i → o.number ≡ 0 → (k : ℕ) → k < record_count i.sheet
     → (z : AccessSize) (a v : ℕ) → step_of (record_at i.sheet k) ≡ Write z a v → Told i o k z a v
+
+-- of two runs: with equal lengths, in one display mode, a WRITE of any two values at one address tells one number
+unfoldable pub LandedAlike : Type 0
+LandedAlike =
+    (i j : Lent) (o p : Outcome) → o ≡ outcome i → p ≡ outcome j → o.number ≡ 0 → p.number ≡ 0
+    → (k : ℕ) → k < record_count i.sheet → k < record_count j.sheet
+    → (z : AccessSize) (a v u : ℕ) → step_of (record_at i.sheet k) ≡ Write z a v → step_of (record_at j.sheet k) ≡ Write z a u
+    → i.lengths ≡ j.lengths → mode_of i.lengths (state_at i k).store ≡ mode_of j.lengths (state_at j k).store
+    → hits_byte o k ≡ hits_byte p k
 
 -- W-207: that of a BLOCK WRITE's is the number that its words' stores wrote
 unfoldable pub BlockLandedTold : Type 0

@@ -8,6 +8,7 @@ ghost use Rattle.promises.specs.Tariff as tariff;
 ghost use Rattle.promises.specs.Preview as preview;
 ghost use Rattle.promises.specs.Grounds as grounds;
 ghost use Rattle.promises.specs.Accesses as accesses;
+ghost use Rattle.promises.specs.Figures as figures;
 
 // ---- demand 1
 
@@ -84,7 +85,7 @@ pub fn accounts()
 // The whole of demand 3, in the model's words: this of every byte that is compared, and what each run has by itself.
 #[tactic(auto, using(crate::proofs::Run::same_times))]
 pub fn same_times()
-    ensures { run.SameTimes }
+    ensures { run.WholeDemand3 }
 {}
 
 // ---- the requests
@@ -93,6 +94,12 @@ pub fn same_times()
 #[tactic(auto, using(crate::proofs::Run::landed_told))]
 pub fn landed_told()
     ensures { run.LandedTold }
+{}
+
+// Of two runs: with equal lengths, in one display mode, a WRITE of any two values at one address tells one number.
+#[tactic(auto, using(crate::proofs::Run::landed_alike))]
+pub fn landed_alike()
+    ensures { run.LandedAlike }
 {}
 
 // W-207: that of a BLOCK WRITE's is the number that its words' stores wrote.
@@ -322,4 +329,10 @@ pub fn previous_after_law()
 #[tactic(auto, using(crate::proofs::Accesses::data_between))]
 pub fn data_between()
     ensures { accesses.AccessLimits }
+{}
+
+// The starred worked figures, all.
+#[tactic(auto, using(crate::proofs::Figures::worked_figures))]
+pub fn worked_figures()
+    ensures { figures.StarredFigures }
 {}
