@@ -38,3 +38,4 @@ pub mod Explained
 pub mod Blocks
 pub mod VersionOne
 pub mod VersionOneCalls
+pub mod Versions

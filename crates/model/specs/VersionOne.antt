@@ -44,7 +44,7 @@ abbrev pub internal₁ : IsaState → ℕ → Bool
 internal₁ Arm raw = arm_internal raw
 internal₁ Thumb raw = thumb_internal₁ (raw % 0x1_0000)
 
--- whatever the version in its input, which that of its time didn't have
+-- the input of its time had no version, and none is read here
 unfoldable pub price_insn₁ : TimingInput → Waits → PrefetchBuffer → InsnCycles
 price_insn₁ i t p =
     record {
@@ -72,7 +72,7 @@ pub data Step₁ : Type 0 where
   Pc₁ : ℕ → Step₁
   Latch₁ : ℕ → Step₁
 
--- the record's fields but the version, which nothing here reads
+-- a record of its time had no version, and none is read here
 unfoldable pub record_at₁ : List ℕ → ℕ → SheetRecord
 record_at₁ s k =
     record {

@@ -1,13 +1,13 @@
 -- A version 1 sheet means what it did before version 2 (W-207): it is examined, priced and run as the definitions of its time
 -- have it, down to each step's time and price. And a reader of that time refuses a version 2 sheet with 2.
-use Rattle.std.specs.Prelude.{◌≡◌, ◌≢◌, Bool, true, false, List, [], ◌∷◌, ◌++◌, map, ℕ, zero, suc, ◌+◌, ◌/◌, ◌%◌, ◌^◌, length, eqb, ltb, leb}
+use Rattle.std.specs.Prelude.{◌≡◌, ◌≢◌, Bool, true, false, List, [], ◌∷◌, ◌++◌, map, ℕ, zero, suc, ◌+◌, ◌/◌, ◌%◌, ◌^◌, ◌≤◌, length, eqb, ltb, leb}
 use Rattle.std.proofs.Math.Path.{refl, ap}
 use Rattle.std.proofs.Common.{ap₂, ◌∙◌, arith}
 use Rattle.std.proofs.Math.Bool.{and-true, and-false, or-true, or-false}
 use borrow.Author.Tests.{eq-eqb, ne_eqb, not-false}
 use Rattle.std.specs.Prelude.{if◌then◌else◌}
 use Rattle.model.specs.Waitcnt.{Waits}
-use Rattle.model.specs.DisableBug.{bits_are, thumb_internal}
+use Rattle.model.specs.DisableBug.{bits_are, pop_opcode, thumb_internal}
 use Rattle.model.specs.Timing.{internal, cart_idle_of, disable_bug, price_insn}
 use Rattle.model.specs.Step.{Media, State, waits_of, priced, code_hits, code_fetched, code_clock, Timed, timing, timed}
 use Rattle.model.specs.Step.{answering, count_store, changed, joined, stepped, answer_of, answer, Result, run}
@@ -46,7 +46,7 @@ use Rattle.model.specs.Laws.VersionOne.{top7, OfOne, as_step}
 
 -- ---- priced as before
 
-same_internal : (isa : IsaState) (raw : ℕ) → internal One isa raw ≡ internal₁ isa raw
+pub same_internal : (isa : IsaState) (raw : ℕ) → internal One isa raw ≡ internal₁ isa raw
 unfolding thumb_internal thumb_internal₁
 same_internal Arm raw = refl
 same_internal Thumb raw = refl
@@ -64,21 +64,36 @@ module _ (raw : ℕ) where
   pop_bits : (n : ℕ) → bits_are opcode 9 7 n ≡ eqb (top7 raw) n
   pop_bits n = ap (λ (m : ℕ). eqb m n) (omega arith)
 
+  module _ (v : Version) where
+    found : top7 raw ≡ pop_opcode v → internal v Thumb raw ≡ true
+    unfolding thumb_internal
+    found e = rw (pop_bits (pop_opcode v) ∙ eq-eqb (top7 raw) (pop_opcode v) e) (simp or-true)
+
+    -- neither is one of the opcodes besides POP that are found
+    lost : 93 ≤ top7 raw → top7 raw ≤ 94 → top7 raw ≢ pop_opcode v → internal v Thumb raw ≡ false
+    unfolding thumb_internal
+    lost least most n =
+        rw (
+          ne_eqb (opcode / 2 ^ 11 % 2 ^ 5) 13 (omega arith),
+          ne_eqb (opcode / 2 ^ 11 % 2 ^ 5) 9 (omega arith),
+          ne_eqb (opcode / 2 ^ 11 % 2 ^ 5) 19 (omega arith),
+          ne_eqb (opcode / 2 ^ 11 % 2 ^ 5) 25 (omega arith),
+          pop_bits (pop_opcode v) ∙ ne_eqb (top7 raw) (pop_opcode v) n,
+        )
+
   -- by the top byte 0xBC or 0xBD it is found, and no longer by 0xBA or 0xBB
   pub pop_found : top7 raw ≡ 94 → internal Two Thumb raw ≡ true
-  unfolding thumb_internal
-  pop_found e = rw (pop_bits 94 ∙ eq-eqb (top7 raw) 94 e) (simp or-true)
+  pop_found e = found Two e
 
   pub pop_lost : top7 raw ≡ 93 → internal Two Thumb raw ≡ false
-  unfolding thumb_internal
-  pop_lost e =
-      rw (
-        ne_eqb (opcode / 2 ^ 11 % 2 ^ 5) 13 (omega arith),
-        ne_eqb (opcode / 2 ^ 11 % 2 ^ 5) 9 (omega arith),
-        ne_eqb (opcode / 2 ^ 11 % 2 ^ 5) 19 (omega arith),
-        ne_eqb (opcode / 2 ^ 11 % 2 ^ 5) 25 (omega arith),
-        ne_eqb (opcode / 2 ^ 9 % 2 ^ 7) 94 (omega arith),
-      )
+  pop_lost e = lost Two (omega arith) (omega arith) (omega arith)
+
+  -- where version 1 has it the other way round
+  pub one_found : top7 raw ≡ 93 → internal One Thumb raw ≡ true
+  one_found e = found One e
+
+  pub one_lost : top7 raw ≡ 94 → internal One Thumb raw ≡ false
+  one_lost e = lost One (omega arith) (omega arith) (omega arith)
 
   pub others_as_before : top7 raw ≢ 93 → top7 raw ≢ 94 → (isa : IsaState) → internal Two isa raw ≡ internal One isa raw
   unfolding thumb_internal
@@ -106,7 +121,18 @@ same_faults r e =
 pub same_priced : (c : Clock) (isa : IsaState) (a op : ℕ) (jump : Bool) → priced c One isa a op jump ≡ priced₁ c isa a op jump
 same_priced c isa a op jump = same_price (timing_input₁ c isa a op jump) (waits_of c) c.prefetch refl
 
--- in time
+-- in time: an INSTRUCTION of this price
+abbrev pub instruction_timed : Clock → IsaState → ℕ → InsnCycles → Timed
+instruction_timed c isa a y =
+    timing
+    (record {
+      waitcnt = c.waitcnt;
+      force_next_fetch_n = y.latch_disable_bug;
+      prefetch = code_fetched c isa a;
+      previous = no_access;
+    })
+    y.cart_idle y.total (code_hits c isa a)
+
 pub same_timed : (c : Clock) (x : Step₁) → timed c (as_step x) ≡ timed₁ c x
 unfolding code_clock code_clock₁
 same_timed c (Read₁ z a) = refl
@@ -115,18 +141,7 @@ same_timed c (Waitcnt₁ v) = refl
 same_timed c (Idle₁ n) = refl
 same_timed c (Fetch₁ a) = refl
 same_timed c (Restart₁ a) = refl
-same_timed c (Instruction₁ isa a op jump) = ap made (same_priced c isa a op jump)
-  where
-    made : InsnCycles → Timed
-    made y =
-        timing
-        (record {
-          waitcnt = c.waitcnt;
-          force_next_fetch_n = y.latch_disable_bug;
-          prefetch = code_fetched c isa a;
-          previous = no_access;
-        })
-        y.cart_idle y.total (code_hits c isa a)
+same_timed c (Instruction₁ isa a op jump) = ap (instruction_timed c isa a) (same_priced c isa a op jump)
 same_timed c (Pc₁ a) = refl
 same_timed c (Latch₁ v) = refl
 

@@ -34,7 +34,8 @@ use Rattle.model.specs.Laws.VersionOne.{as_step}
 
 -- ---- a table with a second buffer
 
-same_second_rows : (i : Lent) → version_of i.sheet ≡ 1 → (each second : ℕ) → second_rows i each second ≡ second_rows₁ i each second
+same_second_rows : (i : Lent) → version_of i.sheet ≡ 1 → (each second : ℕ)
+    → second_rows i each second ≡ second_rows₁ i each second
 same_second_rows i one each second =
     ap₂ (λ (xs ys : List Row).
     (xs ++ (lengths_rows i.lengths (length i.store) (length i.bios) (length i.rom) ++ board_rows i.board))
