@@ -37,3 +37,5 @@ pub mod Grounds
 pub mod Explained
 pub mod Blocks
 pub mod VersionOne
+pub mod VersionOneCalls
+pub mod Versions

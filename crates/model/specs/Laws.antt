@@ -33,3 +33,4 @@ pub mod Grounds
 pub mod Explained
 pub mod Blocks
 pub mod VersionOne
+pub mod Versions

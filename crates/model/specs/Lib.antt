@@ -22,4 +22,5 @@ pub mod Tariff
 pub mod Preview
 pub mod Grounds
 pub mod VersionOne
+pub mod VersionOneCalls
 pub mod Laws
