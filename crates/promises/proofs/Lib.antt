@@ -3,5 +3,6 @@ pub mod Run
 pub mod Tariff
 pub mod Preview
 pub mod Grounds
+pub mod Versions
 pub mod Accesses
 pub mod Figures

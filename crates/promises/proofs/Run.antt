@@ -9,10 +9,9 @@ use Rattle.model.proofs.Laws.Fits.{board_sound, total_fits}
 use Rattle.model.proofs.Laws.Demand3 as demand
 use Rattle.model.proofs.Laws.Demand3.{same_number_at}
 use Rattle.model.proofs.Laws.Told.{told, told_alike, block_told}
-use Rattle.model.proofs.Laws.VersionOne.{version_one}
 use Rattle.examine.specs.Verdicts.{few_index}
 use Rattle.promises.specs.Run.{EachNumber, NoOtherNumber, AcceptedExactly, IndexTold, FirstOfTwo, SmallIndex, RefusedUntouched}
-use Rattle.promises.specs.Run.{SoundLeft, SmallTotal, Accounted, SheetsAlike, SameFigures, WholeDemand3, LandedTold, LandedAlike, BlockLandedTold, AsBefore}
+use Rattle.promises.specs.Run.{SoundLeft, SmallTotal, Accounted, SheetsAlike, SameFigures, WholeDemand3, LandedTold, LandedAlike, BlockLandedTold}
 
 pub table : EachNumber
 unfolding EachNumber
@@ -105,7 +104,3 @@ landed_alike = told_alike
 pub block_landed_told : BlockLandedTold
 unfolding BlockLandedTold
 block_landed_told i o call ok k h a n e = block_told i o call ok k h a n e
-
-pub as_before : AsBefore
-unfolding AsBefore
-as_before i o call one = call ∙ version_one i one

@@ -2,8 +2,7 @@
 -- statement here is of any such call.
 use Rattle.std.specs.Prelude.{◌≡◌, ◌≢◌, true, List, ℕ, ◌+◌, ◌*◌, ◌≤◌, ◌<◌}
 use Rattle.model.specs.Base.{Exactly, byte_at, number}
-use Rattle.model.specs.Sheet.{max_records, version_of, record_at, record_count, step_of}
-use Rattle.model.specs.VersionOne.{outcome₁}
+use Rattle.model.specs.Sheet.{max_records, record_at, record_count, step_of}
 use Rattle.model.specs.BoardBytes.{sound}
 use Rattle.model.specs.Outcome.{Lent, LentBytes, Outcome, outcome}
 use Rattle.model.specs.Alike.{AlikeSheets, AlikeBoards, state_at, Accounts, Demand3}
@@ -117,7 +116,3 @@ unfoldable pub BlockLandedTold : Type 0
 BlockLandedTold =
     (i : Lent) (o : Outcome) → o ≡ outcome i → o.number ≡ 0 → (k : ℕ) → k < record_count i.sheet
     → (a n : ℕ) → step_of (record_at i.sheet k) ≡ BlockWrite a n → BlockTold i o k a n
-
--- W-207: a version 1 sheet means what it did before there was a version 2
-unfoldable pub AsBefore : Type 0
-AsBefore = (i : Lent) (o : Outcome) → o ≡ outcome i → version_of i.sheet ≡ 1 → o ≡ outcome₁ i

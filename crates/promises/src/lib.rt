@@ -7,6 +7,7 @@ ghost use Rattle.promises.specs.Run as run;
 ghost use Rattle.promises.specs.Tariff as tariff;
 ghost use Rattle.promises.specs.Preview as preview;
 ghost use Rattle.promises.specs.Grounds as grounds;
+ghost use Rattle.promises.specs.Versions as versions;
 ghost use Rattle.promises.specs.Accesses as accesses;
 ghost use Rattle.promises.specs.Figures as figures;
 
@@ -108,11 +109,7 @@ pub fn block_landed_told()
     ensures { run.BlockLandedTold }
 {}
 
-// W-207: a version 1 sheet means what it did before there was a version 2.
-#[tactic(auto, using(crate::proofs::Run::as_before))]
-pub fn as_before()
-    ensures { run.AsBefore }
-{}
+// ---- a run under a tariff (W-202)
 
 // Each number exactly when its row of the tariff's table holds and no earlier one does, and 0 exactly when none does.
 #[tactic(auto, using(crate::proofs::Tariff::tariff_table))]
@@ -176,6 +173,8 @@ pub fn same_bills()
     ensures { tariff.SameBills }
 {}
 
+// ---- a preview (W-205)
+
 // For all memories that the run accepts it is the run on a copy of the board, but for the named zeros, and it is accepted
 // exactly when the run with some memories is.
 #[tactic(auto, using(crate::proofs::Preview::as_run))]
@@ -224,6 +223,8 @@ pub fn preview_limits()
 pub fn same_previews()
     ensures { preview.SamePreviews }
 {}
+
+// ---- a run with the grounds of its prices (W-206)
 
 // Each number exactly when its row of the table holds and no earlier one does, and 0 exactly when none does.
 #[tactic(auto, using(crate::proofs::Grounds::grounds_table))]
@@ -281,6 +282,80 @@ pub fn same_grounds()
     ensures { grounds.SameReasons }
 {}
 
+// ---- every version but 1 and 2 is refused with 2
+
+// A run gives number 2 exactly for a marked sheet whose version is neither 1 nor 2.
+#[tactic(auto, using(crate::proofs::Versions::other_versions))]
+pub fn other_versions()
+    ensures { versions.OthersRefused }
+{}
+
+// So does a run under a tariff.
+#[tactic(auto, using(crate::proofs::Versions::tariff_other_versions))]
+pub fn tariff_other_versions()
+    ensures { versions.OthersUnbilled }
+{}
+
+// So does a run with grounds.
+#[tactic(auto, using(crate::proofs::Versions::grounds_other_versions))]
+pub fn grounds_other_versions()
+    ensures { versions.OthersUnexplained }
+{}
+
+// So does a preview.
+#[tactic(auto, using(crate::proofs::Versions::preview_other_versions))]
+pub fn preview_other_versions()
+    ensures { versions.OthersUnpreviewed }
+{}
+
+// ---- a version 1 sheet means what it did before there was a version 2: by definitions of that time, down to a step's time and price
+
+// A run of it.
+#[tactic(auto, using(crate::proofs::Versions::as_before))]
+pub fn as_before()
+    ensures { versions.RunAsBefore }
+{}
+
+// Its bill.
+#[tactic(auto, using(crate::proofs::Versions::tariff_as_before))]
+pub fn tariff_as_before()
+    ensures { versions.BillAsBefore }
+{}
+
+// Its grounds.
+#[tactic(auto, using(crate::proofs::Versions::grounds_as_before))]
+pub fn grounds_as_before()
+    ensures { versions.GroundsAsBefore }
+{}
+
+// Its preview.
+#[tactic(auto, using(crate::proofs::Versions::preview_as_before))]
+pub fn preview_as_before()
+    ensures { versions.PreviewAsBefore }
+{}
+
+// ---- Thumb's POP in version 2: the price, `cart_idle` and the force flag of each opcode, as answered by an accepted run
+
+// At 0xBCxx and 0xBDxx it is found: one cycle more, `cart_idle` one more, and the flag as the disable bug has it.
+#[tactic(auto, using(crate::proofs::Versions::pop_found))]
+pub fn pop_found()
+    ensures { versions.PopFound }
+{}
+
+// At 0xBAxx and 0xBBxx no longer: the fetch alone, and no flag.
+#[tactic(auto, using(crate::proofs::Versions::pop_lost))]
+pub fn pop_lost()
+    ensures { versions.PopLost }
+{}
+
+// Every other opcode, Thumb's and ARM's, answers and leaves what it does in version 1.
+#[tactic(auto, using(crate::proofs::Versions::other_opcodes))]
+pub fn other_opcodes()
+    ensures { versions.OtherOpcodes }
+{}
+
+// ---- runs of data accesses (W-204)
+
 // Without a previous access every price is that of a first beat taken as nonsequential: in ROM N, of a word N + S.
 #[tactic(auto, using(crate::proofs::Accesses::first_cost))]
 pub fn first_cost()
@@ -330,6 +405,8 @@ pub fn previous_after_law()
 pub fn data_between()
     ensures { accesses.AccessLimits }
 {}
+
+// ---- single inputs
 
 // The starred worked figures, all.
 #[tactic(auto, using(crate::proofs::Figures::worked_figures))]

@@ -19,7 +19,7 @@ use Rattle.model.specs.declared.Step.TheVariants.{Write, Latch, BlockWrite}
 use Rattle.model.specs.Laws.Told.{puts_of, hits_byte, Told, block_puts, BlockTold}
 
 -- one step more
-state_next : (i : Lent) (k : ℕ) → k < record_count i.sheet
+pub state_next : (i : Lent) (k : ℕ) → k < record_count i.sheet
     → state_at i (suc k) ≡ stepped (media_of i) (state_at i k) (step_of (record_at i.sheet k))
 unfolding state_at
 state_next i k h =
