@@ -19,6 +19,7 @@ pub mod Near
 pub mod RomLoad
 pub mod Stores
 pub mod Landed
+pub mod BlockPlaces
 pub mod Aligned
 pub mod Run
 pub mod Times

@@ -15,6 +15,7 @@ pub mod Places
 pub mod Near
 pub mod Stores
 pub mod Landed
+pub mod BlockPlaces
 pub mod Aligned
 pub mod Run
 pub mod Times
