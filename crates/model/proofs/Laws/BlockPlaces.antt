@@ -187,7 +187,7 @@ rest_apart l m d s a g u (suc n) j w f t p q =
     let rest = block_stores l word.contents (landed s word.puts) in
     ⊎_elim (λ h. words_apart l m (mode_of l s) a g u 0 j w f (omega arith) p h)
     (λ h. rest_apart l m word.contents (landed s word.puts) a (g + 4) u n j w (omega arith) (omega arith) p
-      (rw next at h))
+    (rw next at h))
     (named_in j word.puts (rest (further 4 (further g a)) n).puts q)
 
 apart_append : (ps qs : List Put) → Apart ps → Apart qs → ((j : ℕ) → Names j ps → Names j qs → ⊥) → Apart (ps ++ qs)
