@@ -33,4 +33,5 @@ pub mod Previewed
 pub mod Grounds
 pub mod Explained
 pub mod Blocks
+pub mod WrittenOut
 pub mod VersionOne
