@@ -38,4 +38,5 @@ pub mod Grounds
 pub mod Explained
 pub mod Blocks
 pub mod WrittenOut
+pub mod WrittenCalls
 pub mod VersionOne

@@ -1,11 +1,11 @@
--- A block is its words, of a call (W-207): a run of a sheet is the run of the records in which each block is written out as so
--- many READ 4, or WRITE 4 of 0, and each answer is made of those of its words.
+-- A block is its words, over records (W-207): the run of a sheet's records is that of the records in which each block is written
+-- out as so many READ 4, or WRITE 4 of 0, and each answer is made of those of its words.
 use Rattle.std.specs.Prelude.{◌≡◌, refl, Bool, true, false, ◌||◌, List, [], ◌∷◌, ◌++◌, map, ℕ, zero, suc, ◌+◌, ◌-◌, ◌≤◌, ◌<◌, length, take, drop, get_or, eqb}
 use Rattle.std.specs.Prelude.{if◌then◌else◌}
 use Rattle.std.proofs.Math.Path.{sym, ap, ap₂}
 use Rattle.std.proofs.Common.{◌∙◌, arith, zero-add, add-zero, append-nil, append_assoc, eqb-true, length-append}
-use Rattle.std.proofs.lemmas.List.{map-append, length-map}
-use Rattle.std.proofs.Math.Seq.{take-append_seam, drop-append-add}
+use Rattle.std.proofs.lemmas.List.{map-append, length-map, length-take, length-drop}
+use Rattle.std.proofs.Math.Seq.{take-append_seam, drop-append-add, drop-cons}
 use Rattle.model.specs.Base.{sum, further}
 use Rattle.model.specs.Wait.{access_size_of, aligned}
 use Rattle.model.specs.Step.{Media, State, Result, stepped, answer, run, total, cycles_in, clock_after}
@@ -31,7 +31,7 @@ use Rattle.model.specs.declared.Step.{Step}
 use Rattle.model.specs.declared.Step.TheVariants.{Read, Write, BlockRead, BlockWrite}
 use Rattle.model.specs.declared.Version.{Version}
 use Rattle.model.specs.declared.Version.TheVariants.{One, Two}
-use Rattle.model.specs.Laws.WrittenOut.{word_record, word_records, written_as, written_out, words_in, words_before, words_at}
+use Rattle.model.specs.Laws.WrittenOut.{word_record, word_records, written_as, written_out, words_in, words_before, words_at, picked}
 use Rattle.model.specs.Laws.WrittenOut.{last_answer, joined_answer}
 
 -- ---- a record stands for what it is written as
@@ -146,6 +146,56 @@ module _ {A : Type 0} (r : SheetRecord) (rs : List SheetRecord) (xs ys : List A)
       ap₂ (λ (n j : ℕ). take n (drop j (xs ++ ys))) many before
       ∙ ap (take (words_before rs (suc k) - words_before rs k)) (drop-append-add xs ys (words_before rs k))
 
+-- so many of them, one record's behind the other's
+pub words_next : (rs : List SheetRecord) (k : ℕ) (d : SheetRecord) → k < length rs
+    → words_before rs (suc k) ≡ words_before rs k + words_in (get_or rs k d)
+words_next [] k d h = absurd (omega arith)
+words_next (r ∷ rs) zero d h = omega (arith, length-append (written_as r) [], words_many r)
+words_next (r ∷ rs) (suc k) d h =
+    omega (
+      arith,
+      length-append (written_as r) (written_out (take k rs)),
+      length-append (written_as r) (written_out (take (suc k) rs)),
+      words_next rs k d (omega arith),
+    )
+
+pub words_most : (rs : List SheetRecord) (k : ℕ) → words_before rs k ≤ length (written_out rs)
+words_most rs zero = omega arith
+words_most [] (suc k) = omega arith
+words_most (r ∷ rs) (suc k) =
+    omega (
+      arith,
+      length-append (written_as r) (written_out (take k rs)),
+      length-append (written_as r) (written_out rs),
+      words_most rs k,
+    )
+
+-- n entries of a list from number k on
+taken : {A : Type 0} (xs : List A) (d : A) (k n : ℕ) → k + n ≤ length xs → take n (drop k xs) ≡ picked xs d k n
+taken xs d k zero h = refl
+taken xs d k (suc n) h =
+    ap (take (suc n)) (drop-cons xs k d (omega arith))
+    ∙ ap (λ ys. get_or xs k d ∷ ys) (taken xs d (suc k) n (omega arith))
+
+module _ {A : Type 0} (rs : List SheetRecord) (xs : List A) (e : length xs ≡ length (written_out rs))
+    (k : ℕ) (r : SheetRecord) (h : k < length rs) where
+  pub words_picked : (d : A) → words_at rs k xs ≡ picked xs d (words_before rs k) (words_in (get_or rs k r))
+  words_picked d =
+      let next = words_next rs k r h in
+      let most = words_most rs (suc k) in
+      let n : words_before rs (suc k) - words_before rs k ≡ words_in (get_or rs k r) = omega arith in
+      ap (λ (j : ℕ). take j (drop (words_before rs k) xs)) n ∙ taken xs d (words_before rs k) _ (omega arith)
+
+  pub words_length : length (words_at rs k xs) ≡ words_in (get_or rs k r)
+  words_length =
+      let next = words_next rs k r h in
+      let most = words_most rs (suc k) in
+      omega (
+        arith,
+        length-take (words_before rs (suc k) - words_before rs k) (drop (words_before rs k) xs),
+        length-drop (words_before rs k) xs,
+      )
+
 -- ---- a step's answer is made of its words'
 
 -- the last answer shows the board that a run leaves
@@ -203,7 +253,7 @@ written_total m s (r ∷ rs) f =
     ∙ sym (ap total (split m s r rs f.0))
 
 -- as many answers as records
-as_many : (m : Media) (s : State) (rs : List SheetRecord) → length (run m s (map step_of rs)).answers ≡ length rs
+pub as_many : (m : Media) (s : State) (rs : List SheetRecord) → length (run m s (map step_of rs)).answers ≡ length rs
 as_many m s rs = run_length m s (map step_of rs) ∙ length-map rs step_of
 
 pub written_answers : (m : Media) (s : State) (rs : List SheetRecord) (k : ℕ) (d : Answer) → All Faultless rs → k < length rs
@@ -230,7 +280,7 @@ unfolding grounds_after clock_past
 grounds_append c [] ys = refl
 grounds_append c (x ∷ xs) ys = ap (λ (gs : List (List Ground)). grounds c x ∷ gs) (grounds_append (clock_after c x) xs ys)
 
-grounds_many : (c : Clock) (rs : List SheetRecord) → length (grounds_after c (map step_of rs)) ≡ length rs
+pub grounds_many : (c : Clock) (rs : List SheetRecord) → length (grounds_after c (map step_of rs)) ≡ length rs
 unfolding grounds_after
 grounds_many c [] = refl
 grounds_many c (r ∷ rs) = ap suc (grounds_many (clock_after c (step_of r)) rs)
