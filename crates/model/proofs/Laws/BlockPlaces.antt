@@ -1,23 +1,20 @@
 -- The bytes of a block's words (W-207) are at places of their own in the lent store: two of its words never meet one byte.
-use Rattle.std.specs.Prelude.{◌≡◌, refl, ◌⊎◌, List, [], ◌∷◌, ◌++◌, ℕ, zero, suc, ◌+◌, ◌-◌, ◌*◌, ◌/◌, ◌%◌, ◌^◌, ◌≤◌, ◌<◌, ltb, eqb, leb, not, ◌&&◌}
+use Rattle.std.specs.Prelude.{◌≡◌, refl, ◌⊎◌, List, [], ◌∷◌, ◌++◌, ℕ, zero, suc, ◌+◌, ◌*◌, ◌/◌, ◌%◌, ◌^◌, ◌≤◌, ◌<◌, ltb, eqb, leb, not, ◌&&◌}
 use Rattle.std.specs.Prelude.{Option, Some, None}
 use Rattle.std.specs.Prelude.{if◌then◌else◌}
-use Rattle.std.proofs.Common.{sym, ap, ap₂, ◌∙◌, ⊎_elim, inl, inr, arith, ltb-true, ltb-false, lt-ltb, le-ltb, eqb-true, leb-true}
+use Rattle.std.proofs.Common.{ap, ap₂, ◌∙◌, ⊎_elim, inl, inr, arith, ltb-true, lt-ltb, le-ltb, eqb-true}
 use Rattle.model.specs.Base.{further, lowered, byte_of}
 use Rattle.model.specs.Region.{page, decode}
 use Rattle.model.specs.Mirror.{vram_offset, io_offset}
-use Rattle.model.specs.Wait.{size_bytes_of}
-use Rattle.model.specs.Video.{fills}
 use Rattle.std.proofs.lemmas.Bool.{not-false}
 use Rattle.std.proofs.Math.Nat.{zero-div}
 use Rattle.model.specs.Memory.{ewram_part, iwram_part, io_part, palette_part, vram_part, oam_part, sram_part}
 use Rattle.model.specs.Memory.{lengths_sum, io_target, target_in, target}
 use Rattle.model.specs.Store.{Put, landed, put, put_bytes, mode_of, puts_at, puts}
 use Rattle.model.specs.Step.{stores, block_stores}
-use Rattle.model.specs.Laws.Choice.{All}
-use Rattle.model.proofs.Laws.Choice.{choose, if_true, if_false, by_test, parts, tests}
+use Rattle.model.proofs.Laws.Choice.{choose, if_true, if_false}
 use Rattle.model.specs.Laws.Stores.{Names}
-use Rattle.model.specs.Laws.Landed.{Apart, Written, places_of}
+use Rattle.model.specs.Laws.Landed.{Apart, Written}
 use Rattle.model.proofs.Laws.Landed.{written, block_own}
 use Rattle.model.specs.declared.AccessSize.TheVariants.{Word}
 use Rattle.model.specs.declared.Contents.{Contents}

@@ -1,17 +1,17 @@
 -- A block is its words, of a call (W-207): what an accepted run leaves, costs, answers and tells is what the run does of the
 -- sheet's records with each block written out; and so is it of any second call whose sheet has those records.
-use Rattle.std.specs.Prelude.{◌≡◌, List, [], ◌∷◌, map, ℕ, zero, suc, ◌+◌, ◌≤◌, ◌<◌, length, take, drop, get_or}
+use Rattle.std.specs.Prelude.{◌≡◌, List, [], ◌∷◌, map, ℕ, zero, suc, ◌+◌, ◌≤◌, ◌<◌, length, take, get_or}
 use Rattle.std.proofs.Math.Path.{refl, sym, ap, ap₂}
 use Rattle.std.proofs.Common.{◌∙◌, arith}
 use Rattle.std.proofs.Math.Seq.{take-length}
 use Rattle.model.specs.Step.{Result, run, total, answer}
 use Rattle.model.specs.Sheet.{record_at, record_count, records_of, step_of, steps_of}
-use Rattle.model.specs.BoardBytes.{answer_length, clock_of, board_of, board_bytes, answer_bytes}
+use Rattle.model.specs.BoardBytes.{clock_of, board_of, board_bytes, answer_bytes}
 use Rattle.model.specs.Outcome.{Lent, Outcome, media_of, first_state, ran, outcome_by, outcome}
-use Rattle.model.specs.Alike.{state_at, answer_at, answer_start}
+use Rattle.model.specs.Alike.{state_at, answer_at}
 use Rattle.model.specs.Grounds.{grounds, grounds_after, run_grounds, grounds_at}
 use Rattle.model.specs.Laws.Choice.{All}
-use Rattle.model.proofs.Laws.Run.{run_at, run_length}
+use Rattle.model.proofs.Laws.Run.{run_at}
 use Rattle.model.proofs.Laws.Times.{run_clock}
 use Rattle.model.specs.Laws.Limits.{Faultless}
 use Rattle.model.proofs.Laws.Limits.{records_length}
@@ -20,7 +20,7 @@ use Rattle.model.specs.Laws.Demand3.{no_answer}
 use Rattle.model.proofs.Laws.Demand3.{step_there, step_is, accounts}
 use Rattle.model.proofs.Laws.Explained.{grounds_at_law}
 use Rattle.model.specs.Laws.Blocks.{joined_grounds}
-use Rattle.model.specs.Laws.WrittenOut.{written_out, words_in, words_before, words_at, picked, joined_answer}
+use Rattle.model.specs.Laws.WrittenOut.{written_out, words_in, picked, joined_answer}
 use Rattle.model.proofs.Laws.WrittenOut.{written_faultless, written_state, written_total, written_answers, written_grounds_at}
 use Rattle.model.proofs.Laws.WrittenOut.{written_grounds_all, words_next, words_most, words_picked, words_length}
 use Rattle.model.proofs.Laws.WrittenOut.{as_many, grounds_many}
@@ -29,7 +29,6 @@ use Rattle.model.specs.Laws.WrittenCalls.{SameLoan, answers_from, grounds_from, 
 use Rattle.model.specs.declared.Answer.{Answer}
 use Rattle.model.specs.declared.Ground.{Ground}
 use Rattle.model.specs.declared.SheetRecord.{SheetRecord}
-use Rattle.model.specs.declared.Step.{Step}
 use Rattle.model.specs.declared.Step.TheVariants.{Latch}
 use Rattle.model.specs.Verdict.{Accepted}
 

@@ -1,6 +1,6 @@
 -- A block is its words, over records (W-207): the run of a sheet's records is that of the records in which each block is written
 -- out as so many READ 4, or WRITE 4 of 0, and each answer is made of those of its words.
-use Rattle.std.specs.Prelude.{◌≡◌, refl, Bool, true, false, ◌||◌, List, [], ◌∷◌, ◌++◌, map, ℕ, zero, suc, ◌+◌, ◌-◌, ◌≤◌, ◌<◌, length, take, drop, get_or, eqb}
+use Rattle.std.specs.Prelude.{◌≡◌, refl, Bool, ◌||◌, List, [], ◌∷◌, ◌++◌, map, ℕ, zero, suc, ◌+◌, ◌-◌, ◌≤◌, ◌<◌, length, take, drop, get_or, eqb}
 use Rattle.std.specs.Prelude.{if◌then◌else◌}
 use Rattle.std.proofs.Math.Path.{sym, ap, ap₂}
 use Rattle.std.proofs.Common.{◌∙◌, arith, zero-add, add-zero, append-nil, append_assoc, eqb-true, length-append}
@@ -9,10 +9,10 @@ use Rattle.std.proofs.Math.Seq.{take-append_seam, drop-append-add, drop-cons}
 use Rattle.model.specs.Base.{sum, further}
 use Rattle.model.specs.Wait.{access_size_of, aligned}
 use Rattle.model.specs.Step.{Media, State, Result, stepped, answer, run, total, cycles_in, clock_after}
-use Rattle.model.specs.Sheet.{is_block, words_of, step_of, record_count, record_at, records_of, kind_fault, field_fault, size_fits}
+use Rattle.model.specs.Sheet.{is_block, words_of, step_of, kind_fault, field_fault, size_fits}
 use Rattle.model.specs.Grounds.{grounds, grounds_after}
 use Rattle.model.specs.Laws.Choice.{All}
-use Rattle.model.proofs.Laws.Choice.{choose, by_test, or_true_left, or_true_right, if_true, if_false}
+use Rattle.model.proofs.Laws.Choice.{choose, by_test, or_true_left, or_true_right, if_true}
 use Rattle.model.specs.Laws.Run.{continued}
 use Rattle.model.proofs.Laws.Run.{run_append, run_length}
 use Rattle.model.specs.Laws.Times.{clock_past}
@@ -20,7 +20,7 @@ use Rattle.model.proofs.Laws.Times.{run_clock}
 use Rattle.model.specs.Laws.Limits.{Faultless}
 use Rattle.model.proofs.Laws.Limits.{few_words, words_are}
 use Rattle.model.specs.Laws.Demand3.{no_answer}
-use Rattle.model.specs.Laws.Blocks.{read_words, write_words, hits_in, last_value, joined_grounds, StandsFor}
+use Rattle.model.specs.Laws.Blocks.{read_words, write_words, joined_grounds, StandsFor}
 use Rattle.model.proofs.Laws.Blocks.{read_stands, write_stands}
 use Rattle.model.specs.declared.Answer.{Answer}
 use Rattle.model.specs.declared.AccessSize.TheVariants.{Word}
