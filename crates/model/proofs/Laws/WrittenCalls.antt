@@ -9,7 +9,7 @@ use Rattle.model.specs.Sheet.{record_at, record_count, records_of, step_of, step
 use Rattle.model.specs.BoardBytes.{clock_of, board_of, board_bytes, answer_bytes}
 use Rattle.model.specs.Outcome.{Lent, Outcome, media_of, first_state, ran, outcome_by, outcome}
 use Rattle.model.specs.Alike.{state_at, answer_at}
-use Rattle.model.specs.Grounds.{grounds, grounds_after, run_grounds, grounds_at}
+use Rattle.model.specs.Grounds.{beat_bytes, Explaining, Explained, explain, Explains, grounds, grounds_after, run_grounds, grounds_at}
 use Rattle.model.specs.Laws.Choice.{All}
 use Rattle.model.proofs.Laws.Run.{run_at}
 use Rattle.model.proofs.Laws.Times.{run_clock}
@@ -18,13 +18,13 @@ use Rattle.model.proofs.Laws.Limits.{records_length}
 use Rattle.model.proofs.Laws.Refusal.{was_accepted, record_in, accepted_faultless}
 use Rattle.model.specs.Laws.Demand3.{no_answer}
 use Rattle.model.proofs.Laws.Demand3.{step_there, step_is, accounts}
-use Rattle.model.proofs.Laws.Explained.{grounds_at_law}
+use Rattle.model.proofs.Laws.Explained.{grounds_at_law, explains}
 use Rattle.model.specs.Laws.Blocks.{joined_grounds}
 use Rattle.model.specs.Laws.WrittenOut.{written_out, words_in, picked, joined_answer}
 use Rattle.model.proofs.Laws.WrittenOut.{written_faultless, written_state, written_total, written_answers, written_grounds_at}
 use Rattle.model.proofs.Laws.WrittenOut.{written_grounds_all, words_next, words_most, words_picked, words_length}
 use Rattle.model.proofs.Laws.WrittenOut.{as_many, grounds_many}
-use Rattle.model.specs.Laws.WrittenCalls.{written_run, written_grounds, word_answers, word_grounds, OfWords}
+use Rattle.model.specs.Laws.WrittenCalls.{written_run, written_grounds, word_answers, word_grounds, OfWords, ToldByWords}
 use Rattle.model.specs.Laws.WrittenCalls.{SameLoan, answers_from, grounds_from, word_start, AsWords}
 use Rattle.model.specs.declared.Answer.{Answer}
 use Rattle.model.specs.declared.Ground.{Ground}
@@ -125,6 +125,12 @@ module _ (i : Lent) (o : Outcome) (ok : o ≡ outcome i) (zero_number : o.number
         grounds = of_grounds;
         all_grounds = of_all_grounds;
       }
+
+pub told_by_words : (e : Explaining) (x : Explained) → x ≡ explain e → x.run.number ≡ 0 → ToldByWords e x
+told_by_words e x ok zero_number =
+    let told : Explains e x = explains e x ok zero_number in
+    let words : OfWords e.run x.run = of_words e.run x.run told.run zero_number in
+    record { run = words; bytes = λ k h. told.bytes k h ∙ ap beat_bytes (words.grounds k h) }
 
 -- ---- two calls
 

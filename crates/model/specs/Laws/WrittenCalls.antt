@@ -7,7 +7,7 @@ use Rattle.model.specs.Sheet.{record_at, record_count, records_of, step_of}
 use Rattle.model.specs.BoardBytes.{answer_length, clock_of, board_bytes, answer_bytes}
 use Rattle.model.specs.Outcome.{Lent, Outcome, media_of, first_state}
 use Rattle.model.specs.Alike.{answer_at, answer_start}
-use Rattle.model.specs.Grounds.{grounds_after, run_grounds, grounds_at}
+use Rattle.model.specs.Grounds.{grounds_after, grounds_length, beat_bytes, Explaining, Explained, run_grounds, grounds_start, grounds_at}
 use Rattle.model.specs.Laws.Choice.{All}
 use Rattle.model.specs.Laws.Limits.{Faultless}
 use Rattle.model.specs.Laws.Blocks.{joined_grounds}
@@ -48,6 +48,13 @@ pub record OfWords (i : Lent) (o : Outcome) : Type 0 where
   -- its grounds are theirs, one behind the other, and so are those of all
   pub grounds : (k : ℕ) → k < record_count i.sheet → grounds_at i k ≡ joined_grounds (word_grounds i k)
   pub all_grounds : joined_grounds (run_grounds i) ≡ joined_grounds (written_grounds i)
+
+-- what an accepted run with grounds has of it
+pub record ToldByWords (e : Explaining) (x : Explained) : Type 0 where
+  pub run : OfWords e.run x.run
+  -- the 32 bytes of each step
+  pub bytes : (k : ℕ) → k < record_count e.run.sheet
+      → take grounds_length (drop (grounds_start k) x.grounds) ≡ beat_bytes (joined_grounds (word_grounds e.run k))
 
 -- ---- of two calls
 
