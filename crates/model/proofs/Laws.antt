@@ -39,4 +39,5 @@ pub mod Explained
 pub mod Blocks
 pub mod WrittenOut
 pub mod WrittenCalls
+pub mod WrittenSheet
 pub mod VersionOne

@@ -35,4 +35,5 @@ pub mod Explained
 pub mod Blocks
 pub mod WrittenOut
 pub mod WrittenCalls
+pub mod WrittenSheet
 pub mod VersionOne

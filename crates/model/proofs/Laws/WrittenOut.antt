@@ -116,7 +116,7 @@ write_faultless : (v : Version) (a n : ℕ) → All Faultless (word_records v 2 
 write_faultless v a zero = tt
 write_faultless v a (suc n) = ((word_faultless v a).1, write_faultless v (further 4 a) n)
 
-all_append : {A : Type 0} (P : A → Type 0) (xs ys : List A) → All P xs → All P ys → All P (xs ++ ys)
+pub all_append : {A : Type 0} (P : A → Type 0) (xs ys : List A) → All P xs → All P ys → All P (xs ++ ys)
 all_append P [] ys f g = g
 all_append P (x ∷ xs) ys f g = (f.0, all_append P xs ys f.1 g)
 
