@@ -46,7 +46,7 @@ abbrev pub written_out : List SheetRecord → List SheetRecord
 written_out [] = []
 written_out (r ∷ rs) = written_as r ++ written_out rs
 
--- as many as are accesses, of a block; 1 of any other record
+-- as many as its value says, of a block; 1 of any other record
 abbrev pub words_in : SheetRecord → ℕ
 words_in r = if is_block r.kind then r.value else 1
 
