@@ -19,6 +19,7 @@ pub mod Near
 pub mod RomLoad
 pub mod Stores
 pub mod Landed
+pub mod BlockPlaces
 pub mod Aligned
 pub mod Run
 pub mod Times
@@ -36,6 +37,9 @@ pub mod Previewed
 pub mod Grounds
 pub mod Explained
 pub mod Blocks
+pub mod WrittenOut
+pub mod WrittenCalls
+pub mod WrittenSheet
 pub mod VersionOne
 pub mod VersionOneCalls
 pub mod Versions

@@ -15,6 +15,7 @@ pub mod Places
 pub mod Near
 pub mod Stores
 pub mod Landed
+pub mod BlockPlaces
 pub mod Aligned
 pub mod Run
 pub mod Times
@@ -32,5 +33,8 @@ pub mod Previewed
 pub mod Grounds
 pub mod Explained
 pub mod Blocks
+pub mod WrittenOut
+pub mod WrittenCalls
+pub mod WrittenSheet
 pub mod VersionOne
 pub mod Versions

@@ -1,7 +1,8 @@
 -- A block stands for its words (W-207): what it leaves, costs, answers and tells is what its words do as READ 4 or WRITE 4 steps
 -- of their own, one after the other.
-use Rattle.std.specs.Prelude.{◌≡◌}
-use Rattle.std.proofs.Math.Path.{refl, ap}
+use Rattle.std.specs.Prelude.{◌≡◌, Bool, true, false, ◌||◌}
+use Rattle.std.proofs.Math.Path.{refl, ap, ap₂}
+use Rattle.std.proofs.lemmas.Bool.{false≢true}
 use Rattle.std.proofs.Common.{sym, ◌∙◌, arith}
 use mathlib.Core.List.{List, ◌++◌}
 use Prim.Native.Nat.{ℕ, zero, suc, ◌+◌, ◌≤◌}
@@ -10,20 +11,25 @@ use Rattle.model.specs.Base.{sum, further}
 use Rattle.model.specs.Prefetch.{ticks, filled}
 use Rattle.model.specs.Price.{previous, block_cycles_of}
 use Rattle.model.specs.Store.{landed}
-use Rattle.model.specs.Step.{Media, State, bus_of, stores, block_stores, timed, stepped, answer, run, total, cycles_in, clock_after}
+use Rattle.model.specs.Step.{Media, State, bus_of, stores, block_stores, timed, block_timed, stepped, answer, run, total, cycles_in, clock_after}
 use Rattle.model.specs.Load.{last_word_of}
+use Rattle.model.specs.Wait.{aligned}
+use Rattle.model.specs.Sheet.{is_block, max_words, words_of, step_of}
 use Rattle.model.specs.Grounds.{grounds, grounds_after}
 use Rattle.model.proofs.Laws.Stores.{landed_append}
-use Rattle.model.specs.Laws.Bounds.{Short}
 use Rattle.model.proofs.Laws.Bounds.{block_between}
+use Rattle.model.proofs.Laws.Kinds.{by_kind}
+use Rattle.model.proofs.Laws.Limits.{words_between}
 use Rattle.model.specs.Laws.Times.{SameTimes}
 use Rattle.model.proofs.Laws.Times.{previews_alike, grounds_alike, run_total}
 use Rattle.model.specs.declared.Answer.{Answer}
 use Rattle.model.specs.declared.Clock.{Clock}
 use Rattle.model.specs.declared.Ground.{Ground}
 use Rattle.model.specs.declared.AccessSize.TheVariants.{Word}
+use Rattle.model.specs.declared.SheetRecord.{SheetRecord}
+use Rattle.model.specs.declared.Step.{Step}
 use Rattle.model.specs.declared.Step.TheVariants.{Read, Write, BlockRead, BlockWrite}
-use Rattle.model.specs.Laws.Blocks.{read_words, write_words, hits_in, last_value, joined_grounds, StandsFor}
+use Rattle.model.specs.Laws.Blocks.{read_words, write_words, hits_in, last_value, joined_grounds, StandsFor, Both}
 
 -- ---- a BLOCK READ
 
@@ -128,7 +134,23 @@ write_stands m s a n =
       names = write_names s.board.clock a n;
     }
 
--- ---- a block costs at most 288 cycles
+-- ---- a block costs at most 288 cycles, whether it reads or writes
 
-pub dearest_block : (c : Clock) (a n : ℕ) → Short (BlockRead a n) → (timed c (BlockRead a n)).cycles ≤ 288
-dearest_block c a n s = omega (arith, block_between c.waitcnt (previous c) a n, s.short)
+dearest : (c : Clock) (a n : ℕ) → n ≤ max_words → (block_timed c a n).cycles ≤ 288
+dearest c a n h = omega (arith, block_between c.waitcnt (previous c) a n)
+
+pub dearest_block : (c : Clock) (a n : ℕ) → n ≤ max_words → Both (λ (x : Step). (timed c x).cycles ≤ 288) a n
+dearest_block c a n h = record { reading = dearest c a n h; writing = dearest c a n h }
+
+-- so does that of any record
+pub dearest_record : (c : Clock) (r : SheetRecord) → is_block r.kind ≡ true → (timed c (step_of r)).cycles ≤ 288
+dearest_record c r =
+    by_kind (λ (k : ℕ) (x : Step). is_block k ≡ true → (timed c x).cycles ≤ 288) r
+    no no no no no no no no (λ e. most) (λ e. most)
+    (λ o e. absurd (false≢true (sym (ap₂ (λ (t u : Bool). t || u) o.block_read o.block_write) ∙ e)))
+  where
+    no : {A : Type 0} → false ≡ true → A
+    no e = absurd (false≢true e)
+
+    most : (block_timed c (aligned Word r.address) (words_of r.value)).cycles ≤ 288
+    most = dearest c (aligned Word r.address) (words_of r.value) (words_between r.value).most

@@ -11,7 +11,7 @@ use Rattle.model.specs.declared.Answer.{Answer}
 use Rattle.model.specs.declared.Ground.{Ground}
 use Rattle.model.specs.declared.AccessSize.TheVariants.{Word}
 use Rattle.model.specs.declared.Step.{Step}
-use Rattle.model.specs.declared.Step.TheVariants.{Read, Write}
+use Rattle.model.specs.declared.Step.TheVariants.{Read, Write, BlockRead, BlockWrite}
 
 abbrev pub read_words : ℕ → ℕ → List Step
 read_words a zero = []
@@ -40,3 +40,8 @@ pub record StandsFor (m : Media) (s : State) (x : Step) (words : List Step) : Ty
   pub hits : (answer m s x).hits ≡ hits_in (run m s words).answers
   pub value : (answer m s x).value ≡ last_value 0 (run m s words).answers
   pub names : grounds s.board.clock x ≡ joined_grounds (grounds_after s.board.clock words)
+
+-- a claim about a block of n words from an address on, of either kind
+pub record Both (P : Step → Type 0) (a n : ℕ) : Type 0 where
+  pub reading : P (BlockRead a n)
+  pub writing : P (BlockWrite a n)

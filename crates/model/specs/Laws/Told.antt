@@ -1,15 +1,19 @@
 -- Words of the laws in proofs/Laws/Told.antt, as definitions. Those laws:
 -- W-201 and W-207, of bytes as lent: what byte 8 of a WRITE's or a BLOCK WRITE's answer tells of the store that the run leaves.
-use Rattle.std.specs.Prelude.{◌≡◌, List, ℕ, suc, ◌+◌, ◌*◌, ◌≤◌, ◌<◌, length}
+use Rattle.std.specs.Prelude.{◌≡◌, List, ℕ, suc, ◌+◌, ◌*◌, ◌%◌, ◌≤◌, length}
 use Rattle.model.specs.Base.{byte_at}
 use Rattle.model.specs.Memory.{lengths_sum}
 use Rattle.model.specs.Store.{Put, landed, mode_of, puts}
 use Rattle.model.specs.Step.{block_stores}
 use Rattle.model.specs.Outcome.{Lent, Outcome}
 use Rattle.model.specs.Alike.{state_at, answer_start}
-use Rattle.model.specs.Laws.Landed.{Written}
+use Rattle.model.specs.Laws.Landed.{Written, places_of}
+use Rattle.model.specs.Laws.Stores.{Names}
 use Rattle.model.specs.Laws.Choice.{All}
 use Rattle.model.specs.declared.AccessSize.{AccessSize}
+use Rattle.model.specs.declared.Step.{Step}
+use Rattle.model.specs.declared.Step.TheVariants.{Read, Write, Waitcnt, Idle, Fetch, Restart, Instruction, Pc, Latch}
+use Rattle.model.specs.declared.Step.TheVariants.{BlockRead, BlockWrite}
 
 -- the bytes that a WRITE of step k lands, in the display mode of its moment
 abbrev pub puts_of : Lent → ℕ → AccessSize → ℕ → ℕ → List Put
@@ -34,13 +38,35 @@ pub record Told (i : Lent) (o : Outcome) (k : ℕ) (z : AccessSize) (a v : ℕ) 
 abbrev pub block_puts : Lent → ℕ → ℕ → ℕ → List Put
 block_puts i k a n = (block_stores i.lengths (state_at i k).board.contents (state_at i k).store a n).puts
 
+-- a block begins at a multiple of 4
+abbrev pub Begins : Step → Type 0
+Begins (Read z a) = Unit {0}
+Begins (Write z a v) = Unit {0}
+Begins (Waitcnt v) = Unit {0}
+Begins (Idle n) = Unit {0}
+Begins (Fetch a) = Unit {0}
+Begins (Restart a) = Unit {0}
+Begins (Instruction v isa a op jump) = Unit {0}
+Begins (Pc a) = Unit {0}
+Begins (Latch v) = Unit {0}
+Begins (BlockRead a n) = a % 4 ≡ 0
+Begins (BlockWrite a n) = a % 4 ≡ 0
+
 pub record BlockTold (i : Lent) (o : Outcome) (k a n : ℕ) : Type 0 where
-  -- the step leaves the store with these bytes landed, each in the lent memories
+  -- the step leaves the store with these bytes landed, each at a place of its own in the lent memories: no two words meet a byte
   pub store : (state_at i (suc k)).store ≡ landed (state_at i k).store (block_puts i k a n)
-  pub own : All (λ (p : Put). p.place < lengths_sum i.lengths) (block_puts i k a n)
+  pub places : Written (lengths_sum i.lengths) (block_puts i k a n)
+  -- afterwards there is 0 at each of these places, and every other place has what it had
+  pub zeros : All (λ (p : Put). byte_at (state_at i (suc k)).store p.place ≡ 0) (block_puts i k a n)
+  pub others : (j : ℕ) → ¬ (Names j (block_puts i k a n)) → byte_at (state_at i (suc k)).store j ≡ byte_at (state_at i k).store j
   -- and byte 8 is how many they are, four a word at most, and 64 in all
   pub number : hits_byte o k ≡ length (block_puts i k a n)
   pub most : hits_byte o k ≤ 4 * n
   pub in_all : hits_byte o k ≤ 64
   -- 0: the store is as it was
   pub none : hits_byte o k ≡ 0 → (state_at i (suc k)).store ≡ (state_at i k).store
+
+-- what one block tells twice, in two runs or in one: places and number
+pub record SameBlock (i j : Lent) (o p : Outcome) (k h a n : ℕ) : Type 0 where
+  pub places : places_of (block_puts i k a n) ≡ places_of (block_puts j h a n)
+  pub number : hits_byte o k ≡ hits_byte p h
