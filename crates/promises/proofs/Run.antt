@@ -8,10 +8,10 @@ use Rattle.model.proofs.Laws.Refusal as refusal
 use Rattle.model.proofs.Laws.Fits.{board_sound, total_fits}
 use Rattle.model.proofs.Laws.Demand3 as demand
 use Rattle.model.proofs.Laws.Demand3.{same_number_at}
-use Rattle.model.proofs.Laws.Told.{told, told_alike, block_told}
+use Rattle.model.proofs.Laws.Told.{told, told_alike}
 use Rattle.examine.specs.Verdicts.{few_index}
 use Rattle.promises.specs.Run.{EachNumber, NoOtherNumber, AcceptedExactly, IndexTold, FirstOfTwo, SmallIndex, RefusedUntouched}
-use Rattle.promises.specs.Run.{SoundLeft, SmallTotal, Accounted, SheetsAlike, SameFigures, WholeDemand3, LandedTold, LandedAlike, BlockLandedTold}
+use Rattle.promises.specs.Run.{SoundLeft, SmallTotal, Accounted, SheetsAlike, SameFigures, WholeDemand3, LandedTold, LandedAlike}
 
 pub table : EachNumber
 unfolding EachNumber
@@ -100,7 +100,3 @@ landed_told i o call ok k h z a v e = told i o call ok k h z a v e
 pub landed_alike : LandedAlike
 unfolding LandedAlike
 landed_alike = told_alike
-
-pub block_landed_told : BlockLandedTold
-unfolding BlockLandedTold
-block_landed_told i o call ok k h a n e = block_told i o call ok k h a n e

@@ -8,9 +8,9 @@ use Rattle.model.specs.Outcome.{Lent, LentBytes, Outcome, outcome}
 use Rattle.model.specs.Alike.{AlikeSheets, AlikeBoards, state_at, Accounts, Demand3}
 use Rattle.model.specs.Laws.Refusal.{Table, Index, LowerOfTwo, Acceptable, Untouched}
 use Rattle.model.specs.Store.{mode_of}
-use Rattle.model.specs.Laws.Told.{hits_byte, Told, BlockTold}
+use Rattle.model.specs.Laws.Told.{hits_byte, Told}
 use Rattle.model.specs.declared.AccessSize.{AccessSize}
-use Rattle.model.specs.declared.Step.TheVariants.{Write, BlockWrite}
+use Rattle.model.specs.declared.Step.TheVariants.{Write}
 
 -- ---- demand 1
 
@@ -110,9 +110,3 @@ LandedAlike =
     → (z : AccessSize) (a v u : ℕ) → step_of (record_at i.sheet k) ≡ Write z a v → step_of (record_at j.sheet k) ≡ Write z a u
     → i.lengths ≡ j.lengths → mode_of i.lengths (state_at i k).store ≡ mode_of j.lengths (state_at j k).store
     → hits_byte o k ≡ hits_byte p k
-
--- W-207: that of a BLOCK WRITE's is the number that its words' stores wrote
-unfoldable pub BlockLandedTold : Type 0
-BlockLandedTold =
-    (i : Lent) (o : Outcome) → o ≡ outcome i → o.number ≡ 0 → (k : ℕ) → k < record_count i.sheet
-    → (a n : ℕ) → step_of (record_at i.sheet k) ≡ BlockWrite a n → BlockTold i o k a n

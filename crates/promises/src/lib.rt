@@ -7,6 +7,7 @@ ghost use Rattle.promises.specs.Run as run;
 ghost use Rattle.promises.specs.Tariff as tariff;
 ghost use Rattle.promises.specs.Preview as preview;
 ghost use Rattle.promises.specs.Grounds as grounds;
+ghost use Rattle.promises.specs.Blocks as blocks;
 ghost use Rattle.promises.specs.Versions as versions;
 ghost use Rattle.promises.specs.Accesses as accesses;
 ghost use Rattle.promises.specs.Figures as figures;
@@ -101,12 +102,6 @@ pub fn landed_told()
 #[tactic(auto, using(crate::proofs::Run::landed_alike))]
 pub fn landed_alike()
     ensures { run.LandedAlike }
-{}
-
-// W-207: that of a BLOCK WRITE's is the number that its words' stores wrote.
-#[tactic(auto, using(crate::proofs::Run::block_landed_told))]
-pub fn block_landed_told()
-    ensures { run.BlockLandedTold }
 {}
 
 // ---- a run under a tariff (W-202)
@@ -280,6 +275,52 @@ pub fn explains()
 #[tactic(auto, using(crate::proofs::Grounds::same_grounds))]
 pub fn same_grounds()
     ensures { grounds.SameReasons }
+{}
+
+// ---- blocks (W-207)
+
+// Byte 8 of a BLOCK WRITE's answer is the number of memory bytes that its words' stores wrote: each at a place of its own,
+// where there is 0 afterwards, and no other byte changes.
+#[tactic(auto, using(crate::proofs::Blocks::block_landed_told))]
+pub fn block_landed_told()
+    ensures { blocks.BlockLandedTold }
+{}
+
+// One block tells the same twice, places and number, in any two accepted runs whose memories have the same lengths.
+#[tactic(auto, using(crate::proofs::Blocks::same_block))]
+pub fn same_block()
+    ensures { blocks.SameBlockTold }
+{}
+
+// A block is its words: board, store, total, answers and grounds of an accepted run are those of the run in which each block
+// is written out as so many READ 4, or WRITE 4 of 0.
+#[tactic(auto, using(crate::proofs::Blocks::block_words))]
+pub fn block_words()
+    ensures { blocks.BlocksAreWords }
+{}
+
+// A second accepted call, whose sheet has the records of the first with each block written out, leaves and answers the same.
+#[tactic(auto, using(crate::proofs::Blocks::same_words))]
+pub fn same_words()
+    ensures { blocks.SameAsWords }
+{}
+
+// There is such a sheet, and it is accepted, where it has room.
+#[tactic(auto, using(crate::proofs::Blocks::written_runs))]
+pub fn written_runs()
+    ensures { blocks.WrittenSheetRuns }
+{}
+
+// The grounds of a block are those of its words, one behind the other.
+#[tactic(auto, using(crate::proofs::Blocks::told_words))]
+pub fn told_words()
+    ensures { blocks.GroundsOfWords }
+{}
+
+// A block of either kind costs at most 288 cycles.
+#[tactic(auto, using(crate::proofs::Blocks::dearest_block))]
+pub fn dearest_block()
+    ensures { blocks.DearestBlock }
 {}
 
 // ---- every version but 1 and 2 is refused with 2
