@@ -42,6 +42,16 @@ state_next i k h =
     ∙ ap (λ r. r.state) (run_snoc (media_of i) (first_state i) _ _)
     ∙ ap (stepped (media_of i) (state_at i k)) (step_is i k h)
 
+module _ (i : Lent) (o : Outcome) (ok : o ≡ outcome i) (zero_number : o.number ≡ 0) where
+  -- the store keeps its length, which is that of its memories
+  store_length : (k : ℕ) → length (state_at i k).store ≡ lengths_sum i.lengths
+  unfolding state_at sizes_fit
+  store_length k =
+      let asked : Acceptable i = (zero_exactly i).0 (ap (λ (x : Outcome). x.number) (sym ok) ∙ zero_number) in
+      let fit : sizes_fit i.lengths (length i.store) (length i.bios) (length i.rom) ≡ true = asked.lengths in
+      let sum : lengths_sum i.lengths ≡ length i.store = eqb-true (lengths_sum i.lengths) (length i.store) (search parts) in
+      run_store (length i.store) (media_of i) (first_state i) (take k (steps_of i.sheet)) refl ∙ sym sum
+
 module _ (i : Lent) (o : Outcome) (ok : o ≡ outcome i) (zero_number : o.number ≡ 0)
     (k : ℕ) (h : k < record_count i.sheet) (z : AccessSize) (a v : ℕ) (e : step_of (record_at i.sheet k) ≡ Write z a v) where
   -- few enough for a byte
@@ -58,11 +68,19 @@ module _ (i : Lent) (o : Outcome) (ok : o ≡ outcome i) (zero_number : o.number
       ap (λ (s : State). s.store) (state_next i k h)
       ∙ ap (λ (x : Step). (stepped (media_of i) (state_at i k) x).store) e
 
+  held_there : All (λ (p : Put). byte_at (landed (state_at i k).store (puts_of i k z a v)) p.place ≡ p.byte) (puts_of i k z a v)
+  held_there =
+      all_hold (state_at i k).store (puts_of i k z a v)
+      (rw (store_length i o ok zero_number k) (written i.lengths (mode_of i.lengths (state_at i k).store) z a v))
+
   pub told : Told i o k z a v
   told =
       record {
         store = store_is;
         places = written i.lengths _ z a v;
+        holds = rw store_is held_there;
+        others =
+            λ j u. ap (λ (s : List ℕ). byte_at s j) store_is ∙ unnamed_stays (state_at i k).store (puts_of i k z a v) j u;
         number = number_is;
         most = rw number_is (four_land i.lengths _ z a v);
         none = λ n. store_is ∙ none_lands (state_at i k).store (puts_of i k z a v) (sym number_is ∙ n);
@@ -80,16 +98,6 @@ held : (s : List ℕ) (ps : List Put) → All (λ (p : Put). byte_at s p.place �
     → All (λ (p : Put). byte_at s p.place ≡ 0) ps
 held s [] f g = tt
 held s (p ∷ ps) f g = (f.0 ∙ g.0, held s ps f.1 g.1)
-
-module _ (i : Lent) (o : Outcome) (ok : o ≡ outcome i) (zero_number : o.number ≡ 0) where
-  -- the store keeps its length, which is that of its memories
-  store_length : (k : ℕ) → length (state_at i k).store ≡ lengths_sum i.lengths
-  unfolding state_at sizes_fit
-  store_length k =
-      let asked : Acceptable i = (zero_exactly i).0 (ap (λ (x : Outcome). x.number) (sym ok) ∙ zero_number) in
-      let fit : sizes_fit i.lengths (length i.store) (length i.bios) (length i.rom) ≡ true = asked.lengths in
-      let sum : lengths_sum i.lengths ≡ length i.store = eqb-true (lengths_sum i.lengths) (length i.store) (search parts) in
-      run_store (length i.store) (media_of i) (first_state i) (take k (steps_of i.sheet)) refl ∙ sym sum
 
 module _ (i : Lent) (o : Outcome) (ok : o ≡ outcome i) (zero_number : o.number ≡ 0)
     (k : ℕ) (h : k < record_count i.sheet) (a n : ℕ) (e : step_of (record_at i.sheet k) ≡ BlockWrite a n) where

@@ -28,6 +28,9 @@ pub record Told (i : Lent) (o : Outcome) (k : ℕ) (z : AccessSize) (a v : ℕ) 
   -- the step leaves the store with these bytes landed, each at a place of its own in the lent memories
   pub store : (state_at i (suc k)).store ≡ landed (state_at i k).store (puts_of i k z a v)
   pub places : Written (lengths_sum i.lengths) (puts_of i k z a v)
+  -- afterwards each of these places holds what was stored there, and every other place has what it had
+  pub holds : All (λ (p : Put). byte_at (state_at i (suc k)).store p.place ≡ p.byte) (puts_of i k z a v)
+  pub others : (j : ℕ) → ¬ (Names j (puts_of i k z a v)) → byte_at (state_at i (suc k)).store j ≡ byte_at (state_at i k).store j
   -- and byte 8 is how many they are, 0 to 4
   pub number : hits_byte o k ≡ length (puts_of i k z a v)
   pub most : hits_byte o k ≤ 4
