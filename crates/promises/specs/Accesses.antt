@@ -10,7 +10,7 @@ use Rattle.model.specs.Price.{access_of, no_access, previous, first_kind_of, dat
 use Rattle.model.specs.Step.{waits_of, clock_after}
 use Rattle.model.specs.Laws.Bounds.{Between}
 use Rattle.model.specs.Laws.Window.{InRom}
-use Rattle.model.specs.Laws.Previous.{Continues, Way, cost, cost_after, previous_after}
+use Rattle.model.specs.Laws.Previous.{Continues, Way, access_cost, cost_after, previous_after}
 use Rattle.model.specs.declared.AccessKind.TheVariants.{Nonseq, Seq}
 use Rattle.model.specs.declared.AccessSize.{AccessSize}
 use Rattle.model.specs.declared.AccessSize.TheVariants.{Word}
@@ -23,13 +23,13 @@ use Rattle.model.specs.declared.Step.{Step}
 unfoldable pub FirstAccess : Type 0
 FirstAccess =
     (c : Clock) (m : Way) (z : AccessSize) (a : ℕ) → previous c ≡ no_access
-    → cost c m z a ≡ price (waits_of c) (data_beats_in (sram_waits c.waitcnt) z Nonseq (decode a))
+    → access_cost c m z a ≡ price (waits_of c) (data_beats_in (sram_waits c.waitcnt) z Nonseq (decode a))
 
 -- outside ROM it is so after any access
 unfoldable pub PlainAccess : Type 0
 PlainAccess =
     (c : Clock) (m : Way) (z : AccessSize) (a : ℕ) → is_game_pak_rom (decode a) ≡ false
-    → cost c m z a ≡ price (waits_of c) (data_beats_in (sram_waits c.waitcnt) z Nonseq (decode a))
+    → access_cost c m z a ≡ price (waits_of c) (data_beats_in (sram_waits c.waitcnt) z Nonseq (decode a))
 
 -- an access that goes on in ROM where the one before ended, and begins no block, costs S, of a word 2 S, whatever was read or
 -- written
@@ -49,7 +49,7 @@ unfoldable pub TwoWords : Type 0
 TwoWords =
     (c : Clock) (m n : Way) (a d : ℕ) (win : RomWindow) → window a ≡ Some win
     → aligned Word d ≡ aligned Word a + 4 → d / 0x20000 ≡ a / 0x20000 → first_kind_of (previous c) Word a ≡ Nonseq
-    → cost c m Word a + cost_after c m Word a n Word d
+    → access_cost c m Word a + cost_after c m Word a n Word d
     ≡ rom_half_cycles (waits_of c) win Nonseq + 3 * rom_half_cycles (waits_of c) win Seq
 
 -- what an access costs depends on WAITCNT, the previous access and itself: on no earlier one, and on nothing that is read or

@@ -29,7 +29,7 @@ use Rattle.model.specs.declared.AccessSize.TheVariants.{Word}
 use Rattle.model.specs.declared.SheetRecord.{SheetRecord}
 use Rattle.model.specs.declared.Step.{Step}
 use Rattle.model.specs.declared.Step.TheVariants.{Read, Write, BlockRead, BlockWrite}
-use Rattle.model.specs.Laws.Blocks.{read_words, write_words, hits_in, last_value, joined_grounds, StandsFor, Both}
+use Rattle.model.specs.Laws.Blocks.{read_words, write_words, hits_sum, last_value, joined_grounds, StandsFor, Both}
 
 -- ---- a BLOCK READ
 
@@ -46,7 +46,7 @@ module _ (m : Media) where
   read_cycles s a (suc n) =
       ap (λ (k : ℕ). (answer m s (Read Word a)).cycles + k) (read_cycles (stepped m s (Read Word a)) (further 4 a) n)
 
-  read_hits : (s : State) (a n : ℕ) → 0 ≡ hits_in (run m s (read_words a n)).answers
+  read_hits : (s : State) (a n : ℕ) → 0 ≡ hits_sum (run m s (read_words a n)).answers
   unfolding run
   read_hits s a zero = refl
   read_hits s a (suc n) = omega (arith, read_hits (stepped m s (Read Word a)) (further 4 a) n)
@@ -105,7 +105,7 @@ module _ (m : Media) where
       (landed_append s.store word.puts rest.puts)
       ∙ write_state (stepped m s (Write Word a 0)) (further 4 a) n
 
-  write_hits : (s : State) (a n : ℕ) → (answer m s (BlockWrite a n)).hits ≡ hits_in (run m s (write_words a n)).answers
+  write_hits : (s : State) (a n : ℕ) → (answer m s (BlockWrite a n)).hits ≡ hits_sum (run m s (write_words a n)).answers
   unfolding run
   write_hits s a zero = refl
   write_hits s a (suc n) =

@@ -16,7 +16,7 @@ use Rattle.model.specs.Prefetch.{ready, tick1, ticks, arrives, slot, filled}
 use Rattle.model.proofs.Laws.Choice.{choose, either, by_test, never, and-true, parts}
 use Rattle.model.specs.declared.RomWindow.{RomWindow}
 use Rattle.model.specs.declared.PrefetchBuffer.{PrefetchBuffer}
-use Rattle.model.specs.Laws.Commits.{along, commits, Grown, Apart}
+use Rattle.model.specs.Laws.Commits.{along, commits, Grown, NotAmong}
 
 same_size : (p : PrefetchBuffer) → Grown p p 0
 same_size p = record { head = refl; count = omega arith; next = refl }
@@ -124,7 +124,7 @@ module _ (t : Waits) where
 -- ---- the other places
 
 pub others_kept : (read : ℕ → ℕ) (place a k : ℕ) (h : List ℕ) (i : ℕ)
-    → Apart i place k → get_or (commits read place a k h) i 0 ≡ get_or h i 0
+    → NotAmong i place k → get_or (commits read place a k h) i 0 ≡ get_or h i 0
 others_kept read place a zero h i s = refl
 others_kept read place a (suc k) h i s =
     others_kept read (place + 1) (further 2 a) k (set h (place % capacity) (read a)) i s.1

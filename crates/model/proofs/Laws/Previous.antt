@@ -34,7 +34,7 @@ use Rattle.model.specs.declared.Clock.{Clock}
 use Rattle.model.specs.declared.Step.{Step}
 use Rattle.model.specs.declared.Step.TheVariants.{Read, Write, Waitcnt, Idle, Fetch, Restart, Instruction, Pc, Latch}
 use Rattle.model.specs.declared.Step.TheVariants.{BlockRead, BlockWrite}
-use Rattle.model.specs.Laws.Previous.{SoundPrevious, There, regions, Continues, Reading, Way, Writing, cost, cost_after, previous_after}
+use Rattle.model.specs.Laws.Previous.{SoundPrevious, There, regions, Continues, Reading, Way, Writing, access_cost, cost_after, previous_after}
 
 -- ---- soundness
 
@@ -190,14 +190,14 @@ module _ (y : AccessSize) (b : ℕ) (z : AccessSize) (a : ℕ) (rom : InRom a) w
 
 -- ---- the price of a step
 
-access_cost : (c : Clock) (m : Way) (z : AccessSize) (a : ℕ) → cost c m z a ≡ data_cycles c.waitcnt (previous c) z a
-access_cost c Reading z a = refl
-access_cost c (Writing v) z a = refl
+access_costs : (c : Clock) (m : Way) (z : AccessSize) (a : ℕ) → access_cost c m z a ≡ data_cycles c.waitcnt (previous c) z a
+access_costs c Reading z a = refl
+access_costs c (Writing v) z a = refl
 
 next_cost : (c : Clock) (m : Way) (y : AccessSize) (b : ℕ) (n : Way) (z : AccessSize) (a : ℕ)
     → cost_after c m y b n z a ≡ data_cycles c.waitcnt (access_of y b) z a
-next_cost c Reading y b n z a = access_cost (clock_after c (Read y b)) n z a
-next_cost c (Writing v) y b n z a = access_cost (clock_after c (Write y b v)) n z a
+next_cost c Reading y b n z a = access_costs (clock_after c (Read y b)) n z a
+next_cost c (Writing v) y b n z a = access_costs (clock_after c (Write y b v)) n z a
 
 -- what it costs depends on no access but the previous one, and not on what either reads or writes
 pub only_the_previous : (c d : Clock) (m n i j : Way) (y : AccessSize) (b : ℕ) (z : AccessSize) (a : ℕ)
@@ -209,10 +209,10 @@ only_the_previous c d m n i j y b z a e =
 
 -- without a previous access it is document 01's price: in ROM N, of a word N + S
 pub first_cost : (c : Clock) (m : Way) (z : AccessSize) (a : ℕ) → previous c ≡ no_access
-    → cost c m z a ≡ price (waits_of c) (data_beats_in (sram_waits c.waitcnt) z Nonseq (decode a))
+    → access_cost c m z a ≡ price (waits_of c) (data_beats_in (sram_waits c.waitcnt) z Nonseq (decode a))
 unfolding data_beats
 first_cost c m z a e =
-    access_cost c m z a
+    access_costs c m z a
     ∙ ap (λ (p : Previous). data_cycles c.waitcnt p z a) e
     ∙ ap (λ (k : AccessKind). price (waits_of c) (data_beats_in (sram_waits c.waitcnt) z k (decode a))) (first_kind z a)
 
@@ -234,10 +234,10 @@ plain_beats sram z k j GamePakSram e = refl
 plain_beats sram z k j UnusedHigh e = refl
 
 pub plain_cost : (c : Clock) (m : Way) (z : AccessSize) (a : ℕ) → is_game_pak_rom (decode a) ≡ false
-    → cost c m z a ≡ price (waits_of c) (data_beats_in (sram_waits c.waitcnt) z Nonseq (decode a))
+    → access_cost c m z a ≡ price (waits_of c) (data_beats_in (sram_waits c.waitcnt) z Nonseq (decode a))
 unfolding data_beats
 plain_cost c m z a e =
-    access_cost c m z a
+    access_costs c m z a
     ∙ ap (price (waits_of c)) (plain_beats (sram_waits c.waitcnt) z (first_kind_of (previous c) z a) Nonseq (decode a) e)
 
 -- in a window the beats are those of ROM
@@ -270,7 +270,7 @@ continued_cost c m y b n z a win h e =
 -- two words in a row within a block of ROM, of which the first is nonsequential, cost N + 3 S
 pub two_words : (c : Clock) (m n : Way) (a d : ℕ) (win : RomWindow) → window a ≡ Some win
     → aligned Word d ≡ aligned Word a + 4 → d / 0x20000 ≡ a / 0x20000 → first_kind_of (previous c) Word a ≡ Nonseq
-    → cost c m Word a + cost_after c m Word a n Word d
+    → access_cost c m Word a + cost_after c m Word a n Word d
     ≡ rom_half_cycles (waits_of c) win Nonseq + 3 * rom_half_cycles (waits_of c) win Seq
 two_words c m n a d win e behind block first =
     let there : window d ≡ Some win = same_window d a (omega arith) ∙ e in
@@ -286,7 +286,7 @@ two_words c m n a d win e behind block first =
     }
     in
     ap₂ (λ (x y : ℕ). x + y)
-    (access_cost c m Word a ∙ rom_cost c.waitcnt (previous c) Word Nonseq a win e first)
+    (access_costs c m Word a ∙ rom_cost c.waitcnt (previous c) Word Nonseq a win e first)
     (continued_cost c m Word a n Word d win h there)
     ∙ omega arith
   where

@@ -23,7 +23,7 @@ use Rattle.model.specs.declared.Version.{Version}
 use Rattle.model.specs.declared.Step.{Step}
 use Rattle.model.specs.declared.Step.TheVariants.{Read, Write, Waitcnt, Idle, Fetch, Restart, Instruction, Pc, Latch}
 use Rattle.model.specs.declared.Step.TheVariants.{BlockRead, BlockWrite}
-use Rattle.model.specs.Laws.Rules.{WrittenBits, Hits, TwoNonseqBeats, Other}
+use Rattle.model.specs.Laws.Rules.{WrittenBits, Hits, TwoNonseqBeats, NoInstruction}
 
 -- ---- WAITCNT
 
@@ -163,7 +163,7 @@ pub force_set : (c : Clock) (v : Version) (isa : IsaState) (a op : ℕ) (jump : 
 unfolding code_clock price_insn disable_bug
 force_set c v isa a op jump = refl
 
-pub force_kept : (c : Clock) (x : Step) → Other x → (clock_after c x).force_next_fetch_n ≡ c.force_next_fetch_n
+pub force_kept : (c : Clock) (x : Step) → NoInstruction x → (clock_after c x).force_next_fetch_n ≡ c.force_next_fetch_n
 unfolding set_waitcnt
 force_kept c (Read z a) o = refl
 force_kept c (Write z a v) o = refl

@@ -21,8 +21,8 @@ abbrev pub write_words : ℕ → ℕ → List Step
 write_words a zero = []
 write_words a (suc n) = Write Word a 0 ∷ write_words (further 4 a) n
 
-abbrev pub hits_in : List Answer → ℕ
-hits_in xs = sum (map (λ (x : Answer). x.hits) xs)
+abbrev pub hits_sum : List Answer → ℕ
+hits_sum xs = sum (map (λ (x : Answer). x.hits) xs)
 
 -- the last value, or `v` of none
 abbrev pub last_value : ℕ → List Answer → ℕ
@@ -37,7 +37,7 @@ joined_grounds (gs ∷ rest) = gs ++ joined_grounds rest
 pub record StandsFor (m : Media) (s : State) (x : Step) (words : List Step) : Type 0 where
   pub state : stepped m s x ≡ (run m s words).state
   pub cycles : (answer m s x).cycles ≡ total (run m s words)
-  pub hits : (answer m s x).hits ≡ hits_in (run m s words).answers
+  pub hits : (answer m s x).hits ≡ hits_sum (run m s words).answers
   pub value : (answer m s x).value ≡ last_value 0 (run m s words).answers
   pub names : grounds s.board.clock x ≡ joined_grounds (grounds_after s.board.clock words)
 

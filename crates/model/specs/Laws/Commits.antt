@@ -24,6 +24,6 @@ pub record Grown (p q : PrefetchBuffer) (k : ℕ) : Type 0 where
   pub next : q.next_addr ≡ along k p.next_addr
 
 -- place i is none of the k from `place` on
-abbrev pub Apart : ℕ → ℕ → ℕ → Type 0
-Apart i place zero = Unit {0}
-Apart i place (suc k) = (i ≢ place % capacity) × Apart i (place + 1) k
+abbrev pub NotAmong : ℕ → ℕ → ℕ → Type 0
+NotAmong i place zero = Unit {0}
+NotAmong i place (suc k) = (i ≢ place % capacity) × NotAmong i (place + 1) k

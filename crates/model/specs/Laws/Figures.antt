@@ -52,8 +52,8 @@ machine = tt
 -- ---- a run from the fresh board
 
 -- memories of these lengths, no BIOS and no ROM
-abbrev pub media : (io vram sram : ℕ) → Media
-media io vram sram =
+abbrev pub figure_media : (io vram sram : ℕ) → Media
+figure_media io vram sram =
     record {
       bios = [];
       rom = [];
@@ -64,11 +64,11 @@ abbrev pub from : Media → List ℕ → List Step → Result
 from m s xs = run m (record { board = fresh_board; store = s }) xs
 
 -- with no memory at all
-abbrev pub bare : List Step → Result
-bare xs = from (media 0 0 0) [] xs
+abbrev pub fresh_run : List Step → Result
+fresh_run xs = from (figure_media 0 0 0) [] xs
 
-abbrev pub cycles_in : Result → List ℕ
-cycles_in r = map (λ (x : Answer). x.cycles) r.answers
+abbrev pub cycles_each : Result → List ℕ
+cycles_each r = map (λ (x : Answer). x.cycles) r.answers
 
 abbrev pub counts_in : Result → List ℕ
 counts_in r = map (λ (x : Answer). x.count) r.answers
@@ -81,7 +81,7 @@ values_in r = map (λ (x : Answer). x.value) r.answers
 
 -- a byte stored in a VRAM of full size, in a display mode
 abbrev pub vram_byte : ℕ → List ℕ → ℕ → Result
-vram_byte mode vram a = from (media 1 98304 0) (mode ∷ vram) (Write Byte a 0x5A ∷ [])
+vram_byte mode vram a = from (figure_media 1 98304 0) (mode ∷ vram) (Write Byte a 0x5A ∷ [])
 
 -- what is left, and the halfwords counted
 abbrev pub Leaves : ℕ → Result → List ℕ → Type 0
@@ -92,19 +92,19 @@ Leaves n r store = (r.state.store ≡ store) × (vram_count r ≡ n)
 pub record WorkedFigures : Type 0 where
   pub ewram_mirror : (decode 0x0204_0005 ≡ Ewram) × (ewram_offset 0x0204_0005 ≡ 5)
   pub vram_mirror : (decode 0x0601_8000 ≡ Vram) × (vram_offset 0x0601_8000 ≡ 0x10000)
-  pub waitcnt_bits : (bare (Waitcnt 0xFFFF ∷ [])).state.board.clock.waitcnt ≡ 0x5FFF
-  pub idle_27 : counts_in (bare (Waitcnt 0x4000 ∷ Restart 0x0800_0100 ∷ Idle 27 ∷ [])) ≡ 0 ∷ 0 ∷ 7 ∷ []
-  pub idle_28 : counts_in (bare (Waitcnt 0x4000 ∷ Restart 0x0800_0100 ∷ Idle 28 ∷ [])) ≡ 0 ∷ 0 ∷ 8 ∷ []
-  pub arm_in_block : cycles_in (bare (Instruction One Arm 0x0800_0100 0xE1A0_0000 false ∷ [])) ≡ 6 ∷ []
-  pub arm_at_block : cycles_in (bare (Instruction One Arm 0x0800_0000 0xE1A0_0000 false ∷ [])) ≡ 8 ∷ []
-  pub dearest : cycles_in (bare (Waitcnt 0x0300 ∷ Instruction One Arm 0x0C00_0100 0xE591_0000 false ∷ [])) ≡ 0 ∷ 19 ∷ []
-  pub pop_at_bc : cycles_in (bare (Instruction One Thumb 0x0300_0000 0xBC01 false ∷ [])) ≡ 1 ∷ []
-  pub pop_at_ba : cycles_in (bare (Instruction One Thumb 0x0300_0000 0xBA01 false ∷ [])) ≡ 2 ∷ []
-  pub bx : cycles_in (bare (Instruction One Arm 0x0300_0000 0xE12F_FF1E false ∷ [])) ≡ 2 ∷ []
+  pub waitcnt_bits : (fresh_run (Waitcnt 0xFFFF ∷ [])).state.board.clock.waitcnt ≡ 0x5FFF
+  pub idle_27 : counts_in (fresh_run (Waitcnt 0x4000 ∷ Restart 0x0800_0100 ∷ Idle 27 ∷ [])) ≡ 0 ∷ 0 ∷ 7 ∷ []
+  pub idle_28 : counts_in (fresh_run (Waitcnt 0x4000 ∷ Restart 0x0800_0100 ∷ Idle 28 ∷ [])) ≡ 0 ∷ 0 ∷ 8 ∷ []
+  pub arm_in_block : cycles_each (fresh_run (Instruction One Arm 0x0800_0100 0xE1A0_0000 false ∷ [])) ≡ 6 ∷ []
+  pub arm_at_block : cycles_each (fresh_run (Instruction One Arm 0x0800_0000 0xE1A0_0000 false ∷ [])) ≡ 8 ∷ []
+  pub dearest : cycles_each (fresh_run (Waitcnt 0x0300 ∷ Instruction One Arm 0x0C00_0100 0xE591_0000 false ∷ [])) ≡ 0 ∷ 19 ∷ []
+  pub pop_at_bc : cycles_each (fresh_run (Instruction One Thumb 0x0300_0000 0xBC01 false ∷ [])) ≡ 1 ∷ []
+  pub pop_at_ba : cycles_each (fresh_run (Instruction One Thumb 0x0300_0000 0xBA01 false ∷ [])) ≡ 2 ∷ []
+  pub bx : cycles_each (fresh_run (Instruction One Arm 0x0300_0000 0xE12F_FF1E false ∷ [])) ≡ 2 ∷ []
   -- the store is SRAM alone
   pub sram_half : (sram : List ℕ)
-      → (from (media 0 0 8192) sram (Write Half 0x0E00_0001 0x1234 ∷ [])).state.store ≡ set sram 1 0x12
-  pub rom_end : values_in (bare (Read Word 0x0DFF_FFFE ∷ [])) ≡ 0xFFFF_0000 ∷ []
+      → (from (figure_media 0 0 8192) sram (Write Half 0x0E00_0001 0x1234 ∷ [])).state.store ≡ set sram 1 0x12
+  pub rom_end : values_in (fresh_run (Read Word 0x0DFF_FFFE ∷ [])) ≡ 0xFFFF_0000 ∷ []
   -- the store is one byte of I/O, which holds the mode, and VRAM. A byte that is dropped isn't counted
   pub object_mode_0 : (vram : List ℕ) → Leaves 0 (vram_byte 0 vram 0x0601_0000) (0 ∷ vram)
   pub bitmap_mode_3 : (vram : List ℕ) → Leaves 1 (vram_byte 3 vram 0x0601_0000) (3 ∷ set (set vram 0x10000 0x5A) 0x10001 0x5A)

@@ -50,11 +50,11 @@ access Reading z a = Read z a
 access (Writing v) z a = Write z a v
 
 -- what it costs, by itself and after another
-abbrev pub cost : Clock → Way → AccessSize → ℕ → ℕ
-cost c m z a = (timed c (access m z a)).cycles
+abbrev pub access_cost : Clock → Way → AccessSize → ℕ → ℕ
+access_cost c m z a = (timed c (access m z a)).cycles
 
 abbrev pub cost_after : Clock → Way → AccessSize → ℕ → Way → AccessSize → ℕ → ℕ
-cost_after c m y b n z a = cost (clock_after c (access m y b)) n z a
+cost_after c m y b n z a = access_cost (clock_after c (access m y b)) n z a
 
 -- READ, WRITE and the words of a block set it; IDLE, PC and LATCH keep it; the others clear it
 abbrev pub previous_after : Previous → Step → Previous

@@ -35,5 +35,5 @@ pub record TwoNonseqBeats (t : Waits) (p : PrefetchBuffer) (a : ℕ) (first seco
   pub then_sequential : (ended t (restart t p a)).first_beat ≡ false
 
 -- and no other step moves it
-abbrev pub Other : Step → Type 0
-Other x = (v : Version) (isa : IsaState) (a op : ℕ) (jump : Bool) → x ≢ Instruction v isa a op jump
+abbrev pub NoInstruction : Step → Type 0
+NoInstruction x = (v : Version) (isa : IsaState) (a op : ℕ) (jump : Bool) → x ≢ Instruction v isa a op jump

@@ -8,7 +8,7 @@ use Rattle.model.specs.Wait.{aligned}
 use Rattle.model.specs.Step.{cycles_in}
 use Rattle.model.specs.Sheet.{is_block}
 use Rattle.model.specs.Laws.Demand3.{no_answer}
-use Rattle.model.specs.Laws.Blocks.{hits_in, last_value}
+use Rattle.model.specs.Laws.Blocks.{hits_sum, last_value}
 use Rattle.model.specs.declared.AccessSize.TheVariants.{Word}
 use Rattle.model.specs.declared.Answer.{Answer}
 use Rattle.model.specs.declared.SheetRecord.{SheetRecord}
@@ -79,7 +79,7 @@ joined_answer xs =
     record {
       value = last_value 0 xs;
       cycles = sum (cycles_in xs);
-      hits = hits_in xs;
+      hits = hits_sum xs;
       count = (last_answer no_answer xs).count;
       force = (last_answer no_answer xs).force;
     }
