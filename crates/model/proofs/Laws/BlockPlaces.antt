@@ -25,7 +25,7 @@ use Rattle.model.specs.declared.Region.TheVariants.{Bios, UnusedLow, Ewram, Iwra
 use Rattle.model.specs.declared.Region.TheVariants.{GamePakRomWs0, GamePakRomWs1, GamePakRomWs2, GamePakSram, UnusedHigh}
 use Rattle.model.specs.declared.Target.{Target}
 use Rattle.model.specs.declared.Target.TheVariants.{Unused, SystemRom, GamePakRom, Plain, Video, Sram}
-use Rattle.model.specs.Laws.BlockPlaces.{Among, Meets, base_under, Tells, FoldOf, Zeros}
+use Rattle.model.specs.Laws.BlockPlaces.{Among, MeetsByte, base_under, TellsAddress, FoldOf, Zeros}
 
 -- ---- where the bytes of a word are
 
@@ -54,7 +54,7 @@ one_among p i v j =
     (λ h. absurd h))
     (λ e h. absurd h)
 
-meets_at : (mode a v j : ℕ) (t : Target) → Names j (puts_at mode Word a v t) → Meets t j
+meets_at : (mode a v j : ℕ) (t : Target) → Names j (puts_at mode Word a v t) → MeetsByte t j
 meets_at mode a v j Unused h = h
 meets_at mode a v j SystemRom h = h
 meets_at mode a v j GamePakRom h = h
@@ -62,14 +62,14 @@ meets_at mode a v j (Plain p i) h = named_among p (lowered 4 i) 4 v j h
 meets_at mode a v j (Video m p i) h = named_among p (lowered 4 i) 4 v j h
 meets_at mode a v j (Sram p i) h = one_among p i (byte_of (a % 4) v) j h
 
-meets : (l : Lengths) (mode a v j : ℕ) → Names j (puts l mode Word a v) → Meets (target l a) j
+meets : (l : Lengths) (mode a v j : ℕ) → Names j (puts l mode Word a v) → MeetsByte (target l a) j
 unfolding puts
 meets l mode a v j h = meets_at mode a v j (target l a) h
 
 -- ---- a place of the store tells the address modulo 0x400, of which the size of every memory and of every fold is a multiple
 
 told_by : (l : Lengths) (p : Part) (i a j : ℕ) → Among p (lowered 4 i) 4 j → i % 0x400 ≡ a % 0x400 → base_under l j ≡ p.base
-    → Tells l a j
+    → TellsAddress l a j
 told_by l p i a j h e b = record { row = rw b (omega (arith, h.from, h.to)) }
 
 vram_fold : (a : ℕ) → vram_offset a % 0x400 ≡ a % 0x400
@@ -135,11 +135,11 @@ io_fold a =
     (λ u. omega (arith, eqb-true (page a) 0x04 (not-false (eqb (page a) 0x04) e)))
     λ u. tt
 
-io_tells : (l : Lengths) (a j : ℕ) (x : Option ℕ) → FoldOf a x → Meets (io_target (io_part l) x) j → Tells l a j
+io_tells : (l : Lengths) (a j : ℕ) (x : Option ℕ) → FoldOf a x → MeetsByte (io_target (io_part l) x) j → TellsAddress l a j
 io_tells l a j (Some i) f h = told_by l (io_part l) i a j h f (io_base l j _ h)
 io_tells l a j None f h = absurd h
 
-tells_in : (l : Lengths) (a j : ℕ) (r : Region) → Meets (target_in l a r) j → Tells l a j
+tells_in : (l : Lengths) (a j : ℕ) (r : Region) → MeetsByte (target_in l a r) j → TellsAddress l a j
 tells_in l a j Bios h = absurd h
 tells_in l a j UnusedLow h = absurd h
 tells_in l a j Ewram h = told_by l (ewram_part l) _ a j h (omega arith) (ewram_base l j _ h)
@@ -154,7 +154,7 @@ tells_in l a j GamePakRomWs2 h = absurd h
 tells_in l a j GamePakSram h = told_by l (sram_part l) _ a j h (omega arith) (sram_base l j _ h)
 tells_in l a j UnusedHigh h = absurd h
 
-tells : (l : Lengths) (mode a v j : ℕ) → Names j (puts l mode Word a v) → Tells l a j
+tells : (l : Lengths) (mode a v j : ℕ) → Names j (puts l mode Word a v) → TellsAddress l a j
 unfolding target
 tells l mode a v j h = tells_in l a j (decode a) (meets l mode a v j h)
 

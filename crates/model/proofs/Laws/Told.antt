@@ -30,7 +30,7 @@ use Rattle.model.specs.declared.Lengths.{Lengths}
 use Rattle.model.specs.declared.SheetRecord.{SheetRecord}
 use Rattle.model.specs.declared.Step.{Step}
 use Rattle.model.specs.declared.Step.TheVariants.{Write, Latch, BlockWrite}
-use Rattle.model.specs.Laws.Told.{puts_of, hits_byte, Told, block_puts, Begins, BlockTold, SameBlock}
+use Rattle.model.specs.Laws.Told.{puts_of, hits_byte, Told, block_puts, AtAWord, BlockTold, SameBlock}
 
 -- one step more
 pub state_next : (i : Lent) (k : ℕ) → k < record_count i.sheet
@@ -88,9 +88,9 @@ module _ (i : Lent) (o : Outcome) (ok : o ≡ outcome i) (zero_number : o.number
 
 -- ---- the same of a BLOCK WRITE
 
-block_begins : (r : SheetRecord) → Begins (step_of r)
+block_begins : (r : SheetRecord) → AtAWord (step_of r)
 block_begins r =
-    by_kind (λ (k : ℕ) (x : Step). Begins x) r tt tt tt tt tt tt tt tt
+    by_kind (λ (k : ℕ) (x : Step). AtAWord x) r tt tt tt tt tt tt tt tt
     (aligned_multiple Word r.address) (aligned_multiple Word r.address) (λ o. tt)
 
 -- what landed holds what landed there

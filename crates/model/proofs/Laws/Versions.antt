@@ -38,7 +38,7 @@ use Rattle.model.specs.declared.SheetRecord.{SheetRecord}
 use Rattle.model.specs.declared.Step.{Step}
 use Rattle.model.specs.declared.Step.TheVariants.{Instruction}
 use Rattle.model.specs.Laws.Versions.{RefusesOtherVersions, top_byte, is_pop, was_pop, Elsewhere}
-use Rattle.model.specs.Laws.Versions.{thumb_buffer, fetch_price, fetch_idle, WithInternal, WithoutInternal, AnsweredWith, AnsweredWithout, AsInOne}
+use Rattle.model.specs.Laws.Versions.{thumb_buffer, fetch_alone, fetch_idle, WithInternal, WithoutInternal, AnsweredWith, AnsweredWithout, AsInOne}
 
 -- ---- the versions that are read are 1 and 2
 
@@ -156,7 +156,7 @@ module _ (i : TimingInput) (t : Waits) (p : PrefetchBuffer) where
   abbrev made : Bool → InsnCycles
   made inner =
       record {
-        total = fetch_price i t p + bit inner;
+        total = fetch_alone i t p + bit inner;
         internal = bit inner;
         cart_idle = fetch_idle i t + bit inner;
         latch_disable_bug = force_next_fetch_nonseq i.prefetch_enabled (in_window i.code_addr) inner i.pc_changed;

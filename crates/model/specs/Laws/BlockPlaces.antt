@@ -19,13 +19,13 @@ pub record Among (p : Part) (i n j : ℕ) : Type 0 where
   pub end : j < p.base + p.size
 
 -- a place that is one of the word's that an address meets
-abbrev pub Meets : Target → ℕ → Type 0
-Meets Unused j = ⊥
-Meets SystemRom j = ⊥
-Meets GamePakRom j = ⊥
-Meets (Plain p i) j = Among p (lowered 4 i) 4 j
-Meets (Video m p i) j = Among p (lowered 4 i) 4 j
-Meets (Sram p i) j = Among p (lowered 4 i) 4 j
+abbrev pub MeetsByte : Target → ℕ → Type 0
+MeetsByte Unused j = ⊥
+MeetsByte SystemRom j = ⊥
+MeetsByte GamePakRom j = ⊥
+MeetsByte (Plain p i) j = Among p (lowered 4 i) 4 j
+MeetsByte (Video m p i) j = Among p (lowered 4 i) 4 j
+MeetsByte (Sram p i) j = Among p (lowered 4 i) 4 j
 
 -- where the memory begins in which a place of the store is
 abbrev pub base_under : Lengths → ℕ → ℕ
@@ -39,7 +39,7 @@ base_under l j =
     else (sram_part l).base
 
 -- a place of the store that is told by an address: within 0x400 bytes they are in the same word
-pub record Tells (l : Lengths) (a j : ℕ) : Type 0 where
+pub record TellsAddress (l : Lengths) (a j : ℕ) : Type 0 where
   pub row : (j - base_under l j) % 0x400 / 4 ≡ a % 0x400 / 4
 
 -- a place in a memory, if there is one, is the address's within 0x400 bytes

@@ -42,18 +42,18 @@ abbrev pub block_puts : Lent → ℕ → ℕ → ℕ → List Put
 block_puts i k a n = (block_stores i.lengths (state_at i k).board.contents (state_at i k).store a n).puts
 
 -- a block begins at a multiple of 4
-abbrev pub Begins : Step → Type 0
-Begins (Read z a) = Unit {0}
-Begins (Write z a v) = Unit {0}
-Begins (Waitcnt v) = Unit {0}
-Begins (Idle n) = Unit {0}
-Begins (Fetch a) = Unit {0}
-Begins (Restart a) = Unit {0}
-Begins (Instruction v isa a op jump) = Unit {0}
-Begins (Pc a) = Unit {0}
-Begins (Latch v) = Unit {0}
-Begins (BlockRead a n) = a % 4 ≡ 0
-Begins (BlockWrite a n) = a % 4 ≡ 0
+abbrev pub AtAWord : Step → Type 0
+AtAWord (Read z a) = Unit {0}
+AtAWord (Write z a v) = Unit {0}
+AtAWord (Waitcnt v) = Unit {0}
+AtAWord (Idle n) = Unit {0}
+AtAWord (Fetch a) = Unit {0}
+AtAWord (Restart a) = Unit {0}
+AtAWord (Instruction v isa a op jump) = Unit {0}
+AtAWord (Pc a) = Unit {0}
+AtAWord (Latch v) = Unit {0}
+AtAWord (BlockRead a n) = a % 4 ≡ 0
+AtAWord (BlockWrite a n) = a % 4 ≡ 0
 
 pub record BlockTold (i : Lent) (o : Outcome) (k a n : ℕ) : Type 0 where
   -- the step leaves the store with these bytes landed, each at a place of its own in the lent memories: no two words meet a byte

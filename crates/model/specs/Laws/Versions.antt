@@ -54,8 +54,8 @@ Elsewhere Thumb raw = (is_pop raw ≡ false) × (was_pop raw ≡ false)
 -- ---- as priced
 
 -- the fetch alone, and its cycles in which the cartridge bus is free
-abbrev pub fetch_price : TimingInput → Waits → PrefetchBuffer → ℕ
-fetch_price i t p = price t (fetch_beats p i.force_fetch_n i.isa i.code_addr)
+abbrev pub fetch_alone : TimingInput → Waits → PrefetchBuffer → ℕ
+fetch_alone i t p = price t (fetch_beats p i.force_fetch_n i.isa i.code_addr)
 
 abbrev pub fetch_idle : TimingInput → Waits → ℕ
 fetch_idle i t = idle_in t i.code_addr i.isa (window i.code_addr)
@@ -63,7 +63,7 @@ fetch_idle i t = idle_in t i.code_addr i.isa (window i.code_addr)
 -- with an internal cycle: one more each, and the disable bug, with prefetch off, the code in ROM and the pc left alone
 pub record WithInternal (i : TimingInput) (t : Waits) (p : PrefetchBuffer) (x : InsnCycles) : Type 0 where
   pub internal : x.internal ≡ 1
-  pub total : x.total ≡ fetch_price i t p + 1
+  pub total : x.total ≡ fetch_alone i t p + 1
   pub cart_idle : x.cart_idle ≡ fetch_idle i t + 1
   pub latch : x.latch_disable_bug ≡ (not i.prefetch_enabled && in_window i.code_addr && not i.pc_changed)
   pub kind : x.fetch_kind ≡ nonseq_if i.force_fetch_n
@@ -71,7 +71,7 @@ pub record WithInternal (i : TimingInput) (t : Waits) (p : PrefetchBuffer) (x : 
 -- without: the fetch alone, and never the disable bug
 pub record WithoutInternal (i : TimingInput) (t : Waits) (p : PrefetchBuffer) (x : InsnCycles) : Type 0 where
   pub internal : x.internal ≡ 0
-  pub total : x.total ≡ fetch_price i t p
+  pub total : x.total ≡ fetch_alone i t p
   pub cart_idle : x.cart_idle ≡ fetch_idle i t
   pub latch : x.latch_disable_bug ≡ false
   pub kind : x.fetch_kind ≡ nonseq_if i.force_fetch_n
