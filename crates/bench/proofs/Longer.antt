@@ -1,18 +1,17 @@
 -- Of input that is longer than any sheet the beginning says enough: it is refused by its header and its length alone.
-use Rattle.std.specs.Prelude.{◌≡◌, refl, Bool, true, false, not, ◌&&◌, List, ◌++◌, ◌∷◌, ℕ, zero, suc, ◌+◌, ◌*◌, ◌≤◌, ◌<◌, ◌==◌, length, take, leb, eqb, ◌≢◌, Option, Some, None, IfSome}
+use Rattle.std.specs.Prelude.{◌≡◌, refl, Bool, true, false, not, List, ℕ, ◌+◌, ◌*◌, ◌≤◌, ◌<◌, length, take, leb, eqb, ◌≢◌, Option, Some, None, IfSome}
 use Rattle.std.specs.Prelude.{if◌then◌else◌}
 use Rattle.std.proofs.Common.{sym, ap, subst, ◌∙◌, arith, length-take-le, take_all, eqb-true, leb-true, leb-false, le-leb}
 use Rattle.std.proofs.lemmas.List.{get_or-take}
-use Rattle.std.proofs.lemmas.Bool.{not-false}
-use Rattle.model.specs.Base.{byte_at, number}
+use Rattle.model.specs.Base.{byte_at}
 use Rattle.model.specs.Sheet.{header_length, record_length, max_records, latest_version, knows, is_marked, version_of, is_shaped, record_count}
-use Rattle.model.specs.Outcome.{Lent, Row, first_row, sheet_rows, refusal_number, refusal_index, outcome_by}
+use Rattle.model.specs.Outcome.{Lent, refusal_number, refusal_index, outcome_by}
 use Rattle.model.specs.Grounds.{grounds_verdict, explain, explain_by}
-use Rattle.model.specs.Verdict.{Verdict, Accepted, Refused}
+use Rattle.model.specs.Verdict.{Verdict, Refused}
 use Rattle.model.specs.declared.Refusal.{Refusal}
 use Rattle.model.specs.declared.Refusal.TheVariants.{BadMark, BadVersion, BadShape, BadLengths}
 use Rattle.model.specs.declared.Refusal.TheVariants.{UnsoundBoard, ShortAnswers, FaultyRecord, BadRate}
-use Rattle.model.proofs.Laws.Choice.{by_test, never, if_true, parts}
+use Rattle.model.proofs.Laws.Choice.{by_test, if_true, parts}
 use Rattle.std.specs.Io.KnownBytes.{Appends}
 use Rattle.bench.specs.declared.Ending.{Ending}
 use Rattle.bench.specs.declared.Ending.TheVariants.{Failure}

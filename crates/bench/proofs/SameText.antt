@@ -1,27 +1,25 @@
 -- What the printing functions write, by the bytes that a run gave back, is the text that the model makes of the sheet.
-use Rattle.std.specs.Prelude.{◌≡◌, refl, List, [], ◌∷◌, ◌++◌, map, ℕ, zero, suc, ◌+◌, ◌-◌, ◌*◌, ◌==◌, ◌≤◌, ◌<◌, length, take, drop, replicate, decimal, codes, Bool, true, false}
-use Rattle.std.specs.Prelude.{Option, Some, None, flat_map, get_or}
-use Rattle.std.proofs.Common.{sym, ap, ap₂, ◌∙◌, arith, add-zero, eqb-true}
-use Rattle.std.proofs.lemmas.List.{get_or-take, get_or-drop, get_or-replicate}
+use Rattle.std.specs.Prelude.{◌≡◌, refl, List, [], ◌∷◌, ◌++◌, map, ℕ, zero, suc, ◌+◌, ◌-◌, ◌*◌, ◌==◌, ◌≤◌, ◌<◌, length, take, drop, replicate, codes}
+use Rattle.std.specs.Prelude.{Some}
+use Rattle.std.proofs.Common.{ap, ap₂, ◌∙◌, arith, add-zero, eqb-true}
+use Rattle.std.proofs.lemmas.List.{get_or-take, get_or-drop}
 use Rattle.model.specs.Base.{bit, byte_at, number, AllBytes}
 use Rattle.model.specs.Sheet.{max_records, record_count}
-use Rattle.model.specs.BoardBytes.{answer_length, board_length, board_bytes, fresh_board}
-use Rattle.model.specs.Outcome.{Lent, LentBytes, Outcome}
+use Rattle.model.specs.BoardBytes.{answer_length, board_length}
+use Rattle.model.specs.Outcome.{LentBytes}
 use Rattle.model.specs.Alike.{answer_at, answer_start, ReadBack}
-use Rattle.model.specs.Grounds.{ground_byte, ground_name, beat_bytes, beat_ground, grounds_length, grounds_start, grounds_at, Explained, explain}
-use Rattle.model.specs.Grounds.{Explains}
+use Rattle.model.specs.Grounds.{ground_byte, beat_bytes, beat_ground, grounds_length, grounds_start, grounds_at, Explained, explain}
 use Rattle.model.proofs.Laws.Choice.{choose₂}
 use Rattle.bts.specs.Promises as promises
 use Rattle.bts.specs.Explained.{reported_grounds}
-use Rattle.bts.specs.Reported.{reported}
 use Rattle.bts.specs.declared.Report.{Report}
 use Rattle.model.specs.declared.Answer.{Answer}
 use Rattle.model.specs.declared.Ground.{Ground}
 use Rattle.model.specs.declared.Ground.TheVariants.{BufferHit, Sequential, ByFlag, ByBlock, ByAddress}
 use Rattle.model.specs.declared.Ground.TheVariants.{EwramBus, SramBus, VideoBus, Fast}
-use Rattle.bench.specs.Text.{bench_lends, spaced, grounds_text, numbers_text, line_text, lines, total_text, refusal_text, text_of, bench_text, ending_by, bench_ending}
+use Rattle.bench.specs.Text.{bench_lends, grounds_text, numbers_text, line_text, lines, total_text, text_of, bench_text, ending_by, bench_ending}
 use Rattle.bench.specs.Example.{fresh_zeros}
-use Rattle.bench.specs.Lines.{beat_text, beats_text, numbers_read, line_read, lines_read, report_read}
+use Rattle.bench.specs.Lines.{beat_text, beats_text, numbers_read, line_read, report_read}
 
 -- ---- a part of a list of bytes
 

@@ -1,5 +1,5 @@
 -- What the printing functions write, by the bytes that they read.
-use Rattle.std.specs.Prelude.{List, ◌++◌, ℕ, ◌+◌, ◌*◌, take, drop, decimal, codes, flat_map, Option, Some, None, [], ◌==◌}
+use Rattle.std.specs.Prelude.{List, ◌++◌, ℕ, take, drop, decimal, codes, flat_map, Option, Some, None, [], ◌==◌}
 use Rattle.std.specs.Prelude.{if◌then◌else◌}
 use Rattle.model.specs.Base.{byte_at, number}
 use Rattle.model.specs.BoardBytes.{answer_length}

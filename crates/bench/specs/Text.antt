@@ -1,7 +1,7 @@
 -- What `bench` writes of a sheet, in bytes, from the model alone: a line for each record, with its answer and the grounds of its
 -- price, and the total; or the refusal. And how it ends.
 -- From document 01, "The program `bench`", and document 02, W-206.
-use Rattle.std.specs.Prelude.{List, [], ◌∷◌, ◌++◌, ℕ, zero, suc, ◌*◌, ◌==◌, replicate, decimal, codes, flat_map}
+use Rattle.std.specs.Prelude.{List, [], ◌++◌, ℕ, zero, suc, ◌*◌, ◌==◌, replicate, decimal, codes, flat_map}
 use Rattle.std.specs.Prelude.{if◌then◌else◌}
 use Rattle.model.specs.Base.{bit}
 use Rattle.model.specs.Sheet.{max_records}

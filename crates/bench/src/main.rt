@@ -1,7 +1,8 @@
 // bench: prices a sheet. It reads the sheet from standard input, runs it on a fresh board over zeroed memories without BIOS or
 // ROM, and writes a line for each record (index, cycles, value, hits, prefetch count, force flag, and then the grounds of its
 // price, a word a beat) and the total, or the refusal. A refusal, and input or output that fails, are told on standard error too.
-// The exit status is 0 in each case.
+// The exit status is 0 for figures, 1 for a refusal, 2 for input or output that fails. What is written is said by contracts over
+// any writer, since what a terminal or a pipe gets no contract can say.
 #![tactic(auto)]
 
 ghost use Rattle.std.specs.Prelude.{◌≡◌, ◌≢◌, ◌≤◌, ◌*◌, length, take, IfOk, OnOk, IfSome};
@@ -83,11 +84,11 @@ fn print_answers<W: Write>(out: &mut W, answers: &[u8], grounds: &[u8], n: usize
 {
     // by number: what is written is known up to k
     for k in 0..n {
-        let answer = ANSWER_LENGTH * k;
-        let beats = GROUNDS_LENGTH * k;
-        let answer = &answers[answer..answer + ANSWER_LENGTH];
-        let beats = &grounds[beats..beats + GROUNDS_LENGTH];
-        print_answer(out, k, answer, beats)?;
+        let at = ANSWER_LENGTH * k;
+        let from = GROUNDS_LENGTH * k;
+        let answer = &answers[at..at + ANSWER_LENGTH];
+        let grounds = &grounds[from..from + GROUNDS_LENGTH];
+        print_answer(out, k, answer, grounds)?;
     }
     Ok(())
 }
@@ -207,7 +208,7 @@ fn read_full<R: Read>(input: &mut R, buffer: &mut [u8]) -> io::Result<usize>
 
 // The program, over what it reads and what it writes. One byte more than the longest sheet is enough to see that the input is
 // longer than any. Input that can't be read is no sheet, so no line is written of it.
-fn bench<E: Eprint, R: Read, W: Write>(rt: &E, input: &mut R, out: &mut W) -> Ending
+fn price<E: Eprint, R: Read, W: Write>(rt: &E, input: &mut R, out: &mut W) -> Ending
     ensures { IfSome (R.remaining input.old) (λ sheet. result ≢ Ending.Failure
         → (result ≡ bench_ending sheet) × Appends (W.contents out.old) (W.contents out.new) (bench_text sheet)) }
 {
@@ -226,5 +227,5 @@ fn bench<E: Eprint, R: Read, W: Write>(rt: &E, input: &mut R, out: &mut W) -> En
 }
 
 fn main(rt: HostRuntime) -> ExitCode {
-    bench(&rt, &mut rt.reader(), &mut io::writer(&rt)).status()
+    price(&rt, &mut rt.reader(), &mut io::writer(&rt)).status()
 }

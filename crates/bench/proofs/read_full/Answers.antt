@@ -1,5 +1,4 @@
 -- A read puts what it took behind what stands there.
-use Rattle.std.proofs.Common.{arith, rules}
 use Rattle.bench.proofs.Written.{read_within, read_more}
 use Rattle.bench.proofs.read_full.Goals as goal
 

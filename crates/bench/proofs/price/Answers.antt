@@ -1,7 +1,7 @@
 -- What was read is the input, or so much of it that the rest makes no difference.
-use Rattle.std.proofs.Common.{arith, rules}
+use Rattle.std.proofs.Common.{arith}
 use Rattle.bench.proofs.Longer.{told}
-use Rattle.bench.proofs.bench.Goals as goal
+use Rattle.bench.proofs.price.Goals as goal
 
 pub returns-in-Ok-run_sheet : goal.returns-in-Ok-run_sheet
 returns-in-Ok-run_sheet g c =
