@@ -1,7 +1,7 @@
 -- What the printing functions write, by the bytes that a run gave back, is the text that the model makes of the sheet.
 use Rattle.std.specs.Prelude.{◌≡◌, refl, List, [], ◌∷◌, ◌++◌, map, ℕ, zero, suc, ◌+◌, ◌-◌, ◌*◌, ◌==◌, ◌≤◌, ◌<◌, length, take, drop, replicate, codes}
 use Rattle.std.specs.Prelude.{Some}
-use Rattle.std.proofs.Common.{ap, ap₂, ◌∙◌, arith, add-zero, eqb-true}
+use Rattle.std.proofs.Common.{ap, ap₂, ◌∙◌, arith, eqb-true}
 use Rattle.std.proofs.lemmas.List.{get_or-take, get_or-drop}
 use Rattle.model.specs.Base.{bit, byte_at, number, AllBytes}
 use Rattle.model.specs.Sheet.{max_records, record_count}
@@ -68,23 +68,21 @@ lines_same f g (suc n) h =
 abbrev part : ℕ → List ℕ → List ℕ
 part k answers = take answer_length (drop (answer_start k) answers)
 
-numbers_same : (k : ℕ) (answers : List ℕ) (a : Answer) → ReadBack answers k a
-    → numbers_read k (take answer_length (drop (answer_start k) answers)) ≡ numbers_text k a
+numbers_same : (k : ℕ) (answers : List ℕ) (a : Answer) → ReadBack answers k a → numbers_read k (part k answers) ≡ numbers_text k a
 numbers_same k answers a r =
-    let cycles : number 4 (part k answers) 4 ≡ a.cycles = number_in_part 4 12 (answer_start k) 4 answers (omega arith) ∙ r.cycles in
-    let value : number 4 (part k answers) 0 ≡ a.value = number_in_part 4 12 (answer_start k) 0 answers (omega arith) ∙ value₀ in
-    let hits : byte_at (part k answers) 8 ≡ a.hits = byte_in_part 12 (answer_start k) 8 answers (omega arith) ∙ r.hits in
-    let count : byte_at (part k answers) 9 ≡ a.count = byte_in_part 12 (answer_start k) 9 answers (omega arith) ∙ r.count in
-    let force : byte_at (part k answers) 10 ≡ bit a.force = byte_in_part 12 (answer_start k) 10 answers (omega arith) ∙ r.force in
+    let at = answer_start k in
+    let start : answer_start k + 0 ≡ answer_start k = omega arith in
+    let cycles : number 4 (part k answers) 4 ≡ a.cycles = number_in_part 4 12 at 4 answers (omega arith) ∙ r.cycles in
+    let value : number 4 (part k answers) 0 ≡ a.value =
+    number_in_part 4 12 at 0 answers (omega arith) ∙ ap (number 4 answers) start ∙ r.value in
+    let hits : byte_at (part k answers) 8 ≡ a.hits = byte_in_part 12 at 8 answers (omega arith) ∙ r.hits in
+    let count : byte_at (part k answers) 9 ≡ a.count = byte_in_part 12 at 9 answers (omega arith) ∙ r.count in
+    let force : byte_at (part k answers) 10 ≡ bit a.force = byte_in_part 12 at 10 answers (omega arith) ∙ r.force in
     rw (cycles, value, hits, count, force) refl
-  where
-    value₀ : number 4 answers (answer_start k + 0) ≡ a.value
-    value₀ = rw add-zero r.value
 
 line_same : (k : ℕ) (answers grounds : List ℕ) (a : Answer) (gs : List Ground) → ReadBack answers k a
     → take grounds_length (drop (grounds_start k) grounds) ≡ beat_bytes gs
-    → line_read k (take answer_length (drop (answer_start k) answers)) (take grounds_length (drop (grounds_start k) grounds))
-    ≡ line_text k a gs
+    → line_read k (part k answers) (take grounds_length (drop (grounds_start k) grounds)) ≡ line_text k a gs
 line_same k answers grounds a gs r b =
     ap₂ (λ (numbers words : List ℕ). numbers ++ words ++ codes "\n") (numbers_same k answers a r)
     (ap beats_text b ∙ words_of gs (grounds_length - length gs))
@@ -114,7 +112,7 @@ module _ (sheet : List ℕ) (bytes : AllBytes sheet) (r : Report) (board store a
   gave = reported_grounds r board store answers grounds
 
   each_line : r.number ≡ 0 → (k : ℕ) → k < r.index
-      → line_read k (take answer_length (drop (answer_start k) answers)) (take grounds_length (drop (grounds_start k) grounds))
+      → line_read k (part k answers) (take grounds_length (drop (grounds_start k) grounds))
       ≡ line_text k (answer_at (bench_lends sheet).run k) (grounds_at (bench_lends sheet).run k)
   each_line z k h =
       let told = promises.explains (bench_lends sheet) gave call z in

@@ -16,8 +16,8 @@ use Rattle.bench.specs.declared.Ending.TheVariants.{Figures, Refusal, Failure}
 
 -- ---- what the program lends
 
--- to the run of a sheet: a fresh board, zeroed memories of document 01's lengths, no BIOS and no ROM, and room for the answers and
--- the grounds of the longest sheet
+-- to the run of a sheet: a fresh board, zeroed memories of document 01's lengths, no BIOS and no ROM, and room for the answers
+-- and the grounds of the longest sheet
 abbrev pub bench_lends : List ℕ → Explaining
 bench_lends sheet =
     record {

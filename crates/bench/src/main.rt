@@ -82,12 +82,9 @@ fn print_answers<W: Write>(out: &mut W, answers: &[u8], grounds: &[u8], n: usize
     requires explained { grounds_length * n ≤ length grounds.now }
     ensures { OnOk result (Appends (W.contents out.old) (W.contents out.new) (lines_read answers.now grounds.now n)) }
 {
-    // by number: what is written is known up to k
-    for k in 0..n {
-        let at = ANSWER_LENGTH * k;
-        let from = GROUNDS_LENGTH * k;
-        let answer = &answers[at..at + ANSWER_LENGTH];
-        let grounds = &grounds[from..from + GROUNDS_LENGTH];
+    let answers = answers.chunks_exact(ANSWER_LENGTH);
+    let grounds = grounds.chunks_exact(GROUNDS_LENGTH);
+    for (k, (answer, grounds)) in answers.zip(grounds).take(n).enumerate() {
         print_answer(out, k, answer, grounds)?;
     }
     Ok(())
@@ -194,7 +191,8 @@ fn run_sheet<E: Eprint, W: Write>(rt: &E, out: &mut W, sheet: &[u8]) -> io::Resu
 // where the input ends early, and `read_to_end` needs a heap, which this program has none of.
 fn read_full<R: Read>(input: &mut R, buffer: &mut [u8]) -> io::Result<usize>
     ensures within { IfOk result (λ n. n ≤ length buffer.new) }
-    ensures bytes { IfOk result (λ n. IfSome (R.remaining input.old) (λ bytes. take n buffer.new ≡ take (length buffer.new) bytes)) }
+    ensures bytes { IfOk result (λ n. IfSome (R.remaining input.old) (λ bytes.
+        take n buffer.new ≡ take (length buffer.new) bytes)) }
 {
     let mut done: usize = 0;
     while done < buffer.len() {

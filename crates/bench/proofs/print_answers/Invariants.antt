@@ -1,8 +1,7 @@
--- The lines so far are written.
-use Rattle.std.specs.Io.KnownBytes.{Appends}
-use Rattle.bench.specs.Lines.{lines_read}
+-- The lines so far are written, and the chunks that are left are those of the records behind them.
+use Rattle.bench.proofs.Chunks.{Printed}
 use Rattle.bench.proofs.print_answers.Given as goal
 
 abbrev pub invariant-loop-k : goal.invariant-loop-k
 invariant-loop-k g l =
-    Appends (g.W.Write.contents l.fn.out) (g.W.Write.contents l.out) (lines_read l.answers l.grounds l.k)
+    Printed (g.W.Write.contents l.fn.out) (g.W.Write.contents l.out) l.fn.answers l.fn.grounds l.n l.k-iterator
