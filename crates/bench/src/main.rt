@@ -8,10 +8,10 @@
 ghost use Rattle.std.specs.Prelude.{◌≡◌, ◌≢◌, ◌≤◌, ◌*◌, length, take, IfOk, OnOk, IfSome};
 ghost use Rattle.std.specs.Process.{exit_status};
 ghost use Rattle.std.specs.Io.KnownBytes.{Appends};
+ghost use Rattle.model.specs.BoardBytes.{answer_length};
 ghost use Rattle.model.specs.Grounds.{ground_name, grounds_length};
 ghost use Rattle.bench.specs.Text.{spaced, total_text, refusal_text, ending_by, status_of, bench_text, bench_ending};
 ghost use Rattle.bench.specs.Lines.{beat_text, beats_text, numbers_read, line_read, lines_read, report_read};
-ghost use Rattle.model.specs.BoardBytes.{answer_length};
 
 use bts::Report;
 use grounds::names::{beat_ground, ground_name};
@@ -21,6 +21,27 @@ use model::{
 use std::io;
 use std::io::{Read, Write};
 use std::process::ExitCode;
+
+// How a run of the program ends: with figures, with a refusal, or with input or output that fails.
+#[derive(Clone, Copy)]
+enum Ending {
+    Figures,
+    Refusal,
+    Failure,
+}
+
+impl Ending {
+    // What a script is told.
+    fn status(self) -> ExitCode
+        ensures { exit_status result ≡ status_of self }
+    {
+        ExitCode::from(match self {
+            Ending::Figures => 0,
+            Ending::Refusal => 1,
+            Ending::Failure => 2,
+        })
+    }
+}
 
 // A word for the person at the terminal; standard output has nothing but figures. Where nobody can be told, there is nobody to
 // tell of that either.
@@ -100,26 +121,6 @@ fn print_refusal<W: Write>(out: &mut W, refusal: u32, index: u32) -> io::Result<
     ensures { OnOk result (Appends (W.contents out.old) (W.contents out.new) (refusal_text refusal index)) }
 {
     writeln!(out, "refused {refusal} at {index}")
-}
-
-// How a run of the program ends: with figures, with a refusal, or with input or output that fails.
-#[derive(Clone, Copy)]
-enum Ending {
-    Figures,
-    Refusal,
-    Failure,
-}
-
-impl Ending {
-    fn status(self) -> ExitCode
-        ensures { exit_status result ≡ status_of self }
-    {
-        ExitCode::from(match self {
-            Ending::Figures => 0,
-            Ending::Refusal => 1,
-            Ending::Failure => 2,
-        })
-    }
 }
 
 // Writes what a run gives back, the figures or the refusal.
