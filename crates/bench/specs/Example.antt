@@ -1,15 +1,20 @@
--- One accepted outcome, over bytes as lent: the program `bench`'s example, whose total is 31, and its grounds.
+-- One accepted outcome, over bytes as lent: the program `bench`'s example, whose total is 31, its grounds, and what the program
+-- writes of it, to the letter.
 -- From document 01, "The program `bench`", and document 02, W-206.
-use Rattle.std.specs.Prelude.{◌≡◌, refl, List, [], ◌∷◌, ◌++◌, ℕ, replicate}
+use Rattle.std.specs.Prelude.{◌≡◌, refl, List, [], ◌∷◌, ◌++◌, ℕ, replicate, codes}
+use Rattle.std.specs.Fmt.{digits}
 use Rattle.model.specs.Wait.{access_size_of}
 use Rattle.model.specs.Sheet.{rules_of, record_at, records_from, isa_state, step_of, size_fits, kind_fault, field_fault, first_of}
 use Rattle.model.specs.BoardBytes.{board_length, clock_of, contents_of, board_bytes, fresh_board, sound_beat}
 use Rattle.model.specs.BoardBytes.{sound_row, is_zero, sound_prefetch, sound_previous, sound_bytes, sound}
 use Rattle.model.specs.Outcome.{Lent, Outcome, sizes_fit, verdict, ran, outcome}
+use Rattle.model.specs.Alike.{state_at, answer_at}
 use Rattle.model.specs.Grounds.{half_ground, fetch_grounds, first_ground, data_grounds, grounds_after, beat_bytes, Explaining}
 use Rattle.model.specs.Grounds.{grounds_verdict, run_grounds, explain}
 use Rattle.model.specs.Laws.Figures.{machine}
 use Rattle.model.specs.declared.Ground.TheVariants.{BufferHit, EwramBus}
+use Rattle.bench.specs.Text.{bench_text, bench_ending}
+use Rattle.bench.specs.declared.Ending.TheVariants.{Figures, Refusal}
 
 -- the sheet: its header, and five records
 abbrev example_sheet : List ℕ
@@ -31,7 +36,7 @@ pub fresh_zeros : board_bytes fresh_board ≡ replicate board_length 0
 unfolding board_bytes
 fresh_zeros = refl
 
--- what `bench` lends: a fresh board, zeroed memories of its lengths, no BIOS and no ROM
+-- what `bench` lends, with room for its answers alone: a fresh board, zeroed memories of its lengths, no BIOS and no ROM
 abbrev pub example : Lent
 example =
     record {
@@ -71,3 +76,24 @@ unfolding machine rules_of record_at records_from access_size_of isa_state step_
     clock_of contents_of board_bytes sound_beat sound_row is_zero sound_prefetch sound_previous sound_bytes sound
     sizes_fit explain grounds_verdict run_grounds grounds_after half_ground fetch_grounds first_ground data_grounds
 bench_grounds = refl
+
+-- what `bench` writes of it, to the letter: document 01's lines, of which 3 and 4 have a word by document 02
+abbrev pub example_text : List ℕ
+example_text =
+    codes "0 0 0 0 0 0\n"
+    ++ codes "1 0 0 0 0 0\n"
+    ++ codes "2 27 0 0 7 0\n"
+    ++ codes "3 1 0 1 6 0 hit\n"
+    ++ codes "4 3 0 0 6 0 ewram\n"
+    ++ codes "total 31\n"
+
+pub bench_writes : (bench_text example_sheet ≡ example_text) × (bench_ending example_sheet ≡ Figures)
+unfolding machine rules_of record_at records_from access_size_of isa_state step_of size_fits kind_fault field_fault first_of
+    clock_of contents_of board_bytes sound_beat sound_row is_zero sound_prefetch sound_previous sound_bytes sound
+    sizes_fit ran explain grounds_verdict half_ground fetch_grounds first_ground data_grounds state_at answer_at digits
+bench_writes = (refl, refl)
+
+-- and of no sheet
+pub bench_refuses : (bench_text [] ≡ codes "refused 1 at 0\n") × (bench_ending [] ≡ Refusal)
+unfolding explain grounds_verdict digits
+bench_refuses = (refl, refl)

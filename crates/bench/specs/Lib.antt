@@ -1,2 +1,4 @@
--- What the program shows, as a theorem.
+-- What the program writes, and its example, as theorems.
+pub mod Text
+pub mod Lines
 pub mod Example
