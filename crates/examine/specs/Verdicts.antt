@@ -15,6 +15,7 @@ use Rattle.model.specs.Outcome.{refusal_index, verdict_number, outcome_by, outco
 use Rattle.model.specs.Tariff.{share_length, Tariffed, rate_rows, tariff_verdict}
 use Rattle.model.specs.Grounds.{grounds_length, Explaining, grounds_verdict}
 use Rattle.model.specs.Preview.{Asked, no_memories, lent_with, preview_verdict}
+use Rattle.records.specs.Shape.{Shaped, shaped}
 use Rattle.model.specs.Laws.Places.{sizes_small, Sized}
 use Rattle.model.proofs.Laws.Places.{small_sized}
 use Rattle.model.proofs.Laws.Choice.{by_test, eqb_ne, parts, or_true_right, or-false}
@@ -85,16 +86,6 @@ faultless s en ek h =
     sym (row_passes _ _ (le-ltb (fault_index s) (record_count s) (omega (arith, found, en))))
 
 -- ---- numbers
-
-pub record Shaped (s : List ℕ) : Type 0 where
-  pub few : record_count s ≤ max_records
-  pub long : length s ≡ record_start (record_count s)
-
-pub shaped : (s : List ℕ) → is_shaped s ≡ true → Shaped s
-shaped s e =
-    let few : leb (record_count s) max_records ≡ true = search parts in
-    let long : eqb (length s) (record_start (record_count s)) ≡ true = search parts in
-    record { few = leb-true (record_count s) max_records few; long = eqb-true (length s) (record_start (record_count s)) long }
 
 pub sized : (l : Lengths) (bios rom : ℕ) → not (sizes_small l bios rom) ≡ false → Sized l
 sized l bios rom h = small_sized l bios rom (not-false (sizes_small l bios rom) h)
