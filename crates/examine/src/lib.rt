@@ -140,10 +140,11 @@ fn examine_rest(sheet: Sheet<'_>, answers: usize) -> Result<(), Refusal>
     examine_records(sheet)
 }
 
-// All that a caller lends to a run, as it is examined: nothing of it is written.
+// All that a caller lends to a run, as it is examined: nothing of it is written. The sheet is lent for longer: what is accepted is
+// handed on as a `Sheet`, and the rest is then written.
 #[derive(Clone, Copy)]
-pub struct Lent<'a> {
-    pub sheet: &'a [u8],
+pub struct Lent<'s, 'a> {
+    pub sheet: &'s [u8],
     pub board: &'a [u8],
     pub store: &'a [u8],
     pub bios: &'a [u8],
@@ -152,9 +153,9 @@ pub struct Lent<'a> {
     pub lengths: Lengths,
 }
 
-impl<'a> Lent<'a> {
+impl<'s, 'a> Lent<'s, 'a> {
     // The rows with which the table of every run begins: the sheet's head, the lengths, the board.
-    fn examine_lent(self) -> Result<Sheet<'a>, Refusal>
+    fn examine_lent(self) -> Result<Sheet<'s>, Refusal>
         ensures verdict { verdict_of result ≡ def.first_row (def.lent_rows (lent self.entry)) }
         ensures same { IfOk result (λ s. s.bytes.now ≡ self.entry.sheet.now) }
     {
@@ -171,36 +172,43 @@ impl<'a> Lent<'a> {
 
     // The first row of the run's table that holds.
     #[tactic(auto, unfolding(model::specs::Outcome::verdict))]
-    pub fn examine(self) -> Result<(), Refusal>
-        ensures { result ≡ def.verdict (lent self.entry) }
+    pub fn examine(self) -> Result<Sheet<'s>, Refusal>
+        ensures verdict { verdict_of result ≡ def.verdict (lent self.entry) }
+        ensures same { IfOk result (λ s. s.bytes.now ≡ self.entry.sheet.now) }
     {
         let sheet = self.examine_lent()?;
-        examine_rest(sheet, self.answers.len())
+        examine_rest(sheet, self.answers.len())?;
+        Ok(sheet)
     }
 
     // The first row of the table of a run with a second buffer, which has `each` bytes a record.
-    fn examine_second(self, each: usize, second: usize) -> Result<(), Refusal>
+    fn examine_second(self, each: usize, second: usize) -> Result<Sheet<'s>, Refusal>
         requires { each ≤ 0xFFFF }
-        ensures { result ≡ def.first_row (def.second_rows (lent self.entry) each second) }
+        ensures verdict { verdict_of result ≡ def.first_row (def.second_rows (lent self.entry) each second) }
+        ensures same { IfOk result (λ s. s.bytes.now ≡ self.entry.sheet.now) }
     {
         let sheet = self.examine_lent()?;
         examine_room(sheet.count(), self.answers.len(), each, second)?;
-        examine_records(sheet)
+        examine_records(sheet)?;
+        Ok(sheet)
     }
 
     // The first row of the tariff's table that holds: the run's, with room for the shares, and then the rate.
     #[tactic(auto, unfolding(model::specs::Tariff::tariff_verdict))]
-    pub fn examine_tariff(self, shares: &[u8], rate: u32) -> Result<(), Refusal>
-        ensures { result ≡ tariff.tariff_verdict (tariffing (lent self.entry) shares.now rate) }
+    pub fn examine_tariff(self, shares: &[u8], rate: u32) -> Result<Sheet<'s>, Refusal>
+        ensures verdict { verdict_of result ≡ tariff.tariff_verdict (tariffing (lent self.entry) shares.now rate) }
+        ensures same { IfOk result (λ s. s.bytes.now ≡ self.entry.sheet.now) }
     {
-        self.examine_second(SHARE_LENGTH, shares.len())?;
-        examine_rate(rate)
+        let sheet = self.examine_second(SHARE_LENGTH, shares.len())?;
+        examine_rate(rate)?;
+        Ok(sheet)
     }
 
     // The first row of the table of a run with grounds that holds: the run's, with room for the grounds.
     #[tactic(auto, unfolding(model::specs::Grounds::grounds_verdict))]
-    pub fn examine_grounds(self, grounds: &[u8]) -> Result<(), Refusal>
-        ensures { result ≡ reasons.grounds_verdict (explaining (lent self.entry) grounds.now) }
+    pub fn examine_grounds(self, grounds: &[u8]) -> Result<Sheet<'s>, Refusal>
+        ensures verdict { verdict_of result ≡ reasons.grounds_verdict (explaining (lent self.entry) grounds.now) }
+        ensures same { IfOk result (λ s. s.bytes.now ≡ self.entry.sheet.now) }
     {
         self.examine_second(model::GROUNDS_LENGTH, grounds.len())
     }
@@ -208,13 +216,19 @@ impl<'a> Lent<'a> {
 
 // The first row of a preview's table that holds: the run's without that of the lengths.
 #[tactic(auto, unfolding(model::specs::Preview::preview_verdict))]
-pub fn examine_preview(sheet: &[u8], board: &[u8], answers: &[u8]) -> Result<(), Refusal>
-    ensures { result ≡ preview.preview_verdict (asking sheet.now board.now answers.now) }
+pub fn examine_preview<'s>(
+    sheet: &'s [u8],
+    board: &[u8],
+    answers: &[u8],
+) -> Result<Sheet<'s>, Refusal>
+    ensures verdict { verdict_of result ≡ preview.preview_verdict (asking sheet.now board.now answers.now) }
+    ensures same { IfOk result (λ s. s.bytes.now ≡ sheet.now) }
 {
     let accepted = examine_sheet(sheet)?;
     examine_board(board)?;
     let room = answers.len();
-    examine_rest(accepted, room)
+    examine_rest(accepted, room)?;
+    Ok(accepted)
 }
 
 // The documents' number of a refusal, which reports and bills have; a `From` would stand in model.

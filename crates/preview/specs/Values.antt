@@ -14,7 +14,7 @@ use Rattle.model.specs.Base.{bytes, number, AllBytes}
 use Rattle.model.specs.Memory.{no_lengths}
 use Rattle.model.specs.Store.{Put, puts, mode_of}
 use Rattle.model.specs.Step.{Media, State, block_stores, run, stepped, answer}
-use Rattle.model.specs.Sheet.{max_records, record_start, record_at, record_count, records_from, records_of, step_of, steps_of}
+use Rattle.model.specs.Sheet.{record_at, record_count, records_from, records_of, step_of, steps_of}
 use Rattle.model.specs.BoardBytes.{answer_length, answer_bytes, answers_bytes}
 use Rattle.model.specs.Outcome.{media_of, first_state, ran}
 use Rattle.model.specs.Preview.{Asked, preview_answers, no_memories, lent_with, each_answer}
