@@ -25,7 +25,7 @@ use Rattle.model.proofs.Laws.Demand3.{accounts}
 use Rattle.model.specs.Laws.Explained.{GroundsAcceptable}
 use Rattle.model.proofs.Laws.Explained.{grounds_accepted}
 use Rattle.examine.specs.Verdicts.{Ready, ready}
-use Rattle.grounds.specs.Turns.{Shows, Answered, steps_to}
+use Rattle.grounds.specs.Turns.{Shows, OfOneRun, steps_to}
 use Rattle.model.specs.declared.Clock.{Clock}
 use Rattle.model.specs.declared.SheetRecord.{SheetRecord}
 use Rattle.model.specs.declared.Step.{Step}
@@ -114,8 +114,8 @@ module _ (e : Explaining) (yes : grounds_verdict e ≡ Accepted) where
     pub groundable : grounds_length * r.index ≤ length e.grounds
     groundable = omega (arith, records_here, asked.room.fits)
 
-    pub answered : {c : Clock} → c ≡ clock_of e.run.board → Answered c r.index e.run.sheet answers
-    answered {c} q =
+    pub of_one_run : {c : Clock} → c ≡ clock_of e.run.board → OfOneRun c r.index e.run.sheet answers
+    of_one_run {c} q =
         rw q
         (record {
           within = omega (arith, records_here);

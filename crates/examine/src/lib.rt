@@ -89,7 +89,7 @@ pub fn examine_board(board: &[u8]) -> Result<(), Refusal>
 }
 
 // Room for the answers of n records.
-pub fn examine_answers(n: usize, answers: usize) -> Result<(), Refusal>
+fn examine_answers(n: usize, answers: usize) -> Result<(), Refusal>
     requires { n ≤ max_records }
     ensures { result ≡ def.first_row (def.answers_rows n answers) }
 {
@@ -100,7 +100,7 @@ pub fn examine_answers(n: usize, answers: usize) -> Result<(), Refusal>
 }
 
 // Room for the answers of n records, and for `each` bytes a record in a second buffer.
-pub fn examine_room(n: usize, answers: usize, each: usize, second: usize) -> Result<(), Refusal>
+fn examine_room(n: usize, answers: usize, each: usize, second: usize) -> Result<(), Refusal>
     requires { RoomAsked n each }
     ensures { result ≡ def.first_row (def.room_rows n answers each second) }
 {

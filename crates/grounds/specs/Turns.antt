@@ -44,7 +44,7 @@ pub record Shows (answers : List ℕ) (k : ℕ) (c : Clock) (r : SheetRecord) : 
   pub force : byte_at answers (answer_start k + 10) ≡ bit (clock_after c (step_of r)).force_next_fetch_n
 
 -- n records of a sheet, each of which has a kind, and the answers of a run of them that began with the clock, a sound one
-pub record Answered (c : Clock) (n : ℕ) (sheet answers : List ℕ) : Type 0 where
+pub record OfOneRun (c : Clock) (n : ℕ) (sheet answers : List ℕ) : Type 0 where
   pub within : n ≤ record_count sheet
   pub answered : answer_length * n ≤ length answers
   pub sound : SoundClock c
@@ -62,7 +62,7 @@ pub record Explainable (c : Clock) (n : ℕ) (sheet answers grounds : List ℕ) 
   pub shown : (k : ℕ) → k < n → Shows answers k (clock_past c (steps_to sheet k)) (record_at sheet k)
 
 -- so it is of a sheet that has its shape, with room for the grounds
-pub explainable : {c : Clock} {n : ℕ} {sheet answers grounds : List ℕ} → Answered c n sheet answers → Shaped sheet
+pub explainable : {c : Clock} {n : ℕ} {sheet answers grounds : List ℕ} → OfOneRun c n sheet answers → Shaped sheet
     → grounds_length * n ≤ length grounds → Explainable c n sheet answers grounds
 explainable a s h =
     record {

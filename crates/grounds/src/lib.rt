@@ -11,7 +11,7 @@ ghost use Rattle.model.specs.Sheet.{max_words, records_from, step_of};
 ghost use Rattle.model.specs.Price as price;
 ghost use Rattle.model.specs.Grounds as def;
 ghost use Rattle.grounds.specs.Trail as trails;
-ghost use Rattle.grounds.specs.Turns.{Answered};
+ghost use Rattle.grounds.specs.Turns.{OfOneRun};
 
 use model::{ANSWER_LENGTH, AccessSize, Clock, GROUNDS_LENGTH, Ground, IsaState, Region, Step};
 use names::ground_byte;
@@ -320,7 +320,7 @@ pub struct Ran<'a> {
     pub steps: usize,
     pub clock: Clock,
     pub answers: &'a [u8],
-    ghost told: { Answered clock steps sheet.bytes.now answers.now },
+    ghost told: { OfOneRun clock steps sheet.bytes.now answers.now },
 }
 
 // The grounds of a run's steps.
