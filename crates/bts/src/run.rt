@@ -7,7 +7,7 @@ ghost use Rattle.bts.specs.Beginning.{Runs, Ends};
 
 use loads::Media;
 use model::ANSWER_LENGTH;
-use records::answer::put_answer;
+use records::answer::answer_bytes;
 use records::sheet::{Sheet, step_of};
 use step::machine::Machine;
 use step::take_step;
@@ -59,7 +59,7 @@ pub fn run_core(
         let taken = take_step(current, waits, halves, step, store, media);
         let answer = taken.answer;
         let at = ANSWER_LENGTH * k;
-        put_answer(&mut answers[at..at + ANSWER_LENGTH], answer);
+        answers[at..at + ANSWER_LENGTH].copy_from_slice(&answer_bytes(answer));
         let after = taken.machine;
         let fresh = waits_after(waits, current.clock.waitcnt, after.clock.waitcnt);
         waits = fresh;
