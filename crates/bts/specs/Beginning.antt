@@ -8,7 +8,7 @@ use borrow.Rule.Slice.PartMut.{put_mid}
 use Rattle.model.specs.Base.{sum}
 use Rattle.model.specs.Waitcnt.{Waits, rom_waits_of}
 use Rattle.model.specs.Step.{Media, State, Result, run, total, stepped, answer}
-use Rattle.model.specs.Sheet.{max_records, record_start, record_at, records_from, step_of}
+use Rattle.model.specs.Sheet.{record_count, record_at, records_from, step_of}
 use Rattle.model.specs.BoardBytes.{answer_length, answer_bytes, answers_bytes}
 use Rattle.model.specs.Memory.{lengths_sum}
 use Rattle.model.proofs.Laws.Choice.{all_of}
@@ -38,10 +38,9 @@ pub record Beginning (m : Media) (s₀ : State) (sheet lent : List ℕ) (k : ℕ
 
 -- ---- the contract of `run_core`
 
--- what it asks: n records that stand in the sheet, room for their answers, and lengths that add up to the store
+-- what it asks: n records of the sheet, room for their answers, and lengths that add up to the store
 pub record Runs (l : Lengths) (n : ℕ) (sheet store answers : List ℕ) : Type 0 where
-  pub few : n ≤ max_records
-  pub long : record_start n ≤ length sheet
+  pub within : n ≤ record_count sheet
   pub room : answer_length * n ≤ length answers
   pub whole : lengths_sum l ≡ length store
 

@@ -1,6 +1,6 @@
 -- What the run with grounds gives back, as the definitions have it; and that an accepted run's answers tell the pass over them
 -- what it asks.
-use Rattle.std.specs.Prelude.{◌≡◌, refl, ◌≢◌, true, false, ◌&&◌, List, [], ◌++◌, ℕ, ◌*◌, ◌≤◌, ◌<◌, take, leb}
+use Rattle.std.specs.Prelude.{◌≡◌, refl, ◌≢◌, true, false, ◌&&◌, List, [], ◌++◌, ℕ, ◌*◌, ◌≤◌, ◌<◌, length, take, leb}
 use Rattle.std.proofs.Common.{sym, ◌∙◌, arith, leb-true}
 use Rattle.std.proofs.Math.Path.{ap, ap₂}
 use Rattle.std.proofs.Math.ListN.{drop}
@@ -25,7 +25,7 @@ use Rattle.model.proofs.Laws.Demand3.{accounts}
 use Rattle.model.specs.Laws.Explained.{GroundsAcceptable}
 use Rattle.model.proofs.Laws.Explained.{grounds_accepted}
 use Rattle.examine.specs.Verdicts.{Ready, ready}
-use Rattle.grounds.specs.Turns.{Shows, Explainable, steps_to}
+use Rattle.grounds.specs.Turns.{Shows, OfOneRun, steps_to}
 use Rattle.model.specs.declared.Clock.{Clock}
 use Rattle.model.specs.declared.SheetRecord.{SheetRecord}
 use Rattle.model.specs.declared.Step.{Step}
@@ -110,14 +110,16 @@ module _ (e : Explaining) (yes : grounds_verdict e ≡ Accepted) where
         rw (← clock_at_law k h)
         (shows_answer (media_of e.run) (state_at e.run k) (record_at e.run.sheet k) answers k (o.fields lent k h))
 
-    pub explainable : {c : Clock} → c ≡ clock_of e.run.board → Explainable c r.index e.run.sheet answers e.grounds
-    explainable {c} q =
+    -- there is room for the grounds of all
+    pub groundable : grounds_length * r.index ≤ length e.grounds
+    groundable = omega (arith, records_here, asked.room.fits)
+
+    pub of_one_run : {c : Clock} → c ≡ clock_of e.run.board → OfOneRun c r.index e.run.sheet answers
+    of_one_run {c} q =
         rw q
         (record {
-          few = omega (arith, records_here, here.shaped.few);
-          long = omega (arith, records_here, here.shaped.long);
+          within = omega (arith, records_here);
           answered = omega (arith, records_here, answers_long e.run ran_is);
-          room = omega (arith, records_here, asked.room.fits);
           sound = here.clock lent.board;
           kinds = λ k h. some_kind (record_at e.run.sheet k) (here.records k (omega (arith, records_here)));
           shown = λ k h. shown k (omega (arith, records_here));

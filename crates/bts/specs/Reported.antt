@@ -9,7 +9,7 @@ use Rattle.model.specs.BoardBytes.{board_length, answer_length, clock_of, halves
 use Rattle.model.specs.Outcome.{Lent, LentBytes, Outcome, media_of, first_state, ran, verdict, refusal_number, refusal_index}
 use Rattle.model.specs.Outcome.{outcome_by, outcome}
 use Rattle.model.specs.Alike.{cycles_from}
-use Rattle.model.specs.Tariff.{charge, shares_in, Tariffed, Billed, tariff_verdict, bill_by, bill}
+use Rattle.model.specs.Tariff.{max_rate, share_length, charge, shares_in, Tariffed, Billed, tariff_verdict, bill_by, bill}
 use Rattle.model.specs.Preview.{Asked, Previewed, preview_verdict, preview_by, preview, no_memories, lent_with, each_answer}
 use Rattle.model.proofs.Laws.Refusal.{number_zero, zero_exactly}
 use Rattle.model.proofs.Laws.Fits.{answers_count, total_fits}
@@ -20,7 +20,7 @@ use Rattle.model.proofs.Laws.Previewed.{bare_verdict, preview_total}
 use Rattle.step.specs.Begun.{state_from}
 use Rattle.examine.specs.Lent.{lending}
 use Rattle.examine.specs.Verdicts.{Ready, ready}
-use Rattle.tariff.specs.Shares.{Payable, Billable}
+use Rattle.tariff.specs.Shares.{Payable, Summed}
 use Rattle.preview.specs.Values.{clock_valued, Answered, preview_from}
 use Rattle.bts.specs.Beginning.{Beginning, Ends, answers_size}
 use Rattle.model.specs.declared.Answer.{Answer}
@@ -164,15 +164,19 @@ module _ (t : Tariffed) (yes : tariff_verdict t ≡ Accepted) where
                 (sym (ap (λ (o : Outcome). o.number) outcome_here) ∙ no_refusal t.run run_accepts ran_is));
           }
 
-      pub billable : Billable r.index r.total t.rate answers t.shares
-      billable =
+      -- the answers come to the total
+      pub summed : Summed r.index r.total answers
+      summed =
           record {
             few = omega (arith, records_here, (ready t.run run_accepts).shaped.few);
             answered = omega (arith, records_here, answers_long t.run ran_is);
-            room = omega (arith, records_here, asked.all.room.fits);
             summed = ap (λ (o : Outcome). o.total) ran_is ∙ sym (ap sum cycles_are);
-            payable = payable;
+            most = payable.few;
           }
+
+      -- there is room for their shares, at a rate that is not too high
+      pub shareable : (t.rate ≤ max_rate) × (share_length * r.index ≤ length t.shares)
+      shareable = (payable.most, omega (arith, records_here, asked.all.room.fits))
 
       -- with the shares and the charge it is the accepted bill
       pub billed_from : {cents : ℕ} {written : List ℕ} → cents ≡ charge t.rate r.total
@@ -230,8 +234,7 @@ module _ (q : Asked) (yes : preview_verdict q ≡ Accepted) where
     pub answers_stand : Answered r.index q.sheet answers
     answers_stand =
         record {
-          few = omega (arith, all_answered, bare_ready.shaped.few);
-          long = omega (arith, all_answered, bare_ready.shaped.long);
+          within = omega (arith, all_answered);
           room = omega (arith, all_answered, answers_long bare ran_is);
         }
 

@@ -19,7 +19,7 @@ ghost use Rattle.bts.specs.Explained.{reported_grounds};
 use examine::Lent;
 use loads::Media;
 use model::{BOARD_LENGTH, Lengths, Refusal};
-use records::sheet;
+use records::sheet::Sheet;
 use step::machine::Machine;
 
 // What a run gives back: 0, the number of records and the total; or the refusal's number and index, and 0. It is C's layout, so
@@ -81,17 +81,17 @@ impl From<Refusal> for Bill {
 
 // Runs the records of an accepted sheet. What was accepted is as long as a board.
 fn run_accepted(
-    sheet: &[u8],
+    sheet: Sheet<'_>,
     board: &mut [u8],
     store: &mut [u8],
     media: &Media<'_>,
     answers: &mut [u8],
 ) -> Report
-    requires { verdict (lent_by sheet.now board.old store.old media.now answers.old) ≡ Accepted }
+    requires { verdict (lent_by sheet.bytes.now board.old store.old media.now answers.old) ≡ Accepted }
     ensures { reported result board.new store.new answers.new
-        ≡ outcome_by (lent_by sheet.now board.old store.old media.now answers.old) Accepted }
+        ≡ outcome_by (lent_by sheet.entry.bytes.now board.old store.old media.now answers.old) Accepted }
 {
-    let n = sheet::record_count(sheet);
+    let n = sheet.count();
     let board = board.as_mut_array().unwrap();
     let machine = Machine {
         clock: board::load_clock(board),
@@ -131,8 +131,8 @@ fn run_examined(
         answers,
         lengths: media.lengths,
     };
-    lent.examine()?;
-    Ok(run_accepted(sheet, board, store, media, answers))
+    let accepted = lent.examine()?;
+    Ok(run_accepted(accepted, board, store, media, answers))
 }
 
 pub fn bts_run(
@@ -192,9 +192,14 @@ fn bill_examined(
         answers,
         lengths: media.lengths,
     };
-    lent.examine_tariff(shares, rate)?;
-    let report = run_accepted(sheet, board, store, media, answers);
-    tariff::put_shares(answers, report.index as usize, report.total, rate, shares);
+    let accepted = lent.examine_tariff(shares, rate)?;
+    let report = run_accepted(accepted, board, store, media, answers);
+    let run = tariff::Ran {
+        answers,
+        steps: report.index as usize,
+        total: report.total,
+    };
+    tariff::put_shares(run, rate, shares);
     Ok(report.billed(tariff::charge(report.total, rate)))
 }
 
@@ -257,10 +262,17 @@ fn explain_examined(
         answers,
         lengths: media.lengths,
     };
-    lent.examine_grounds(grounds)?;
+    let accepted = lent.examine_grounds(grounds)?;
     let clock = board::load_clock(board.as_array().unwrap());
-    let report = run_accepted(sheet, board, store, media, answers);
-    grounds::put_grounds(sheet, report.index as usize, clock, answers, grounds);
+    let report = run_accepted(accepted, board, store, media, answers);
+    let steps = report.index as usize;
+    let run = grounds::Ran {
+        sheet: accepted,
+        steps,
+        clock,
+        answers,
+    };
+    grounds::put_grounds(run, grounds);
     Ok(report)
 }
 
@@ -306,7 +318,7 @@ fn preview_examined(sheet: &[u8], board: &[u8], answers: &mut [u8]) -> Result<Re
     ensures { reported_preview (told report_of_refusal result) sheet.now board.now answers.new
         ≡ preview (asking sheet.now board.now answers.old) }
 {
-    examine::examine_preview(sheet, board, answers)?;
+    let accepted = examine::examine_preview(sheet, board, answers)?;
     let mut spare: [u8; BOARD_LENGTH] = *board.as_array().unwrap();
     let mut store = [0u8; 0];
     let media = Media {
@@ -314,8 +326,8 @@ fn preview_examined(sheet: &[u8], board: &[u8], answers: &mut [u8]) -> Result<Re
         rom: b"",
         lengths: Lengths::none(),
     };
-    let report = run_accepted(sheet, &mut spare, &mut store, &media, answers);
-    preview::put_values(sheet, report.index as usize, answers);
+    let report = run_accepted(accepted, &mut spare, &mut store, &media, answers);
+    preview::put_values(accepted, report.index as usize, answers);
     Ok(report)
 }
 

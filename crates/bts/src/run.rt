@@ -7,8 +7,8 @@ ghost use Rattle.bts.specs.Beginning.{Runs, Ends};
 
 use loads::Media;
 use model::ANSWER_LENGTH;
-use records::answer::put_answer;
-use records::sheet::{record_at, rules_of, step_of};
+use records::answer::answer_bytes;
+use records::sheet::{Sheet, step_of};
 use step::machine::Machine;
 use step::take_step;
 use waits::waitcnt::WaitCnt;
@@ -34,7 +34,7 @@ pub struct Done {
 
 // The first n records of a sheet. Halfwords, store and answers are written, each by another function, so that they come apart.
 pub fn run_core(
-    sheet: &[u8],
+    sheet: Sheet<'_>,
     n: usize,
     machine: Machine,
     halves: &mut [u16; 8],
@@ -42,13 +42,12 @@ pub fn run_core(
     media: &Media<'_>,
     answers: &mut [u8],
 ) -> Done
-    requires { Runs media.now.lengths n sheet.now store.old answers.old }
+    requires { Runs media.now.lengths n sheet.bytes.now store.old answers.old }
     ensures { Ends media.now
         (state_from machine.clock halves.old machine.contents store.old)
-        sheet.now n answers.old
+        sheet.entry.bytes.now n answers.old
         result halves.new store.new answers.new }
 {
-    let version = rules_of(sheet);
     let mut waits = waits::rom_waits(WaitCnt {
         raw: machine.clock.waitcnt,
     });
@@ -56,11 +55,11 @@ pub fn run_core(
     let mut total: u64 = 0;
     // by number: the records and the answers go by strides of their own, and what is written is known up to k
     for k in 0..n {
-        let step = step_of(record_at(sheet, version, k));
+        let step = step_of(sheet.record_at(k));
         let taken = take_step(current, waits, halves, step, store, media);
         let answer = taken.answer;
         let at = ANSWER_LENGTH * k;
-        put_answer(&mut answers[at..at + ANSWER_LENGTH], answer);
+        answers[at..at + ANSWER_LENGTH].copy_from_slice(&answer_bytes(answer));
         let after = taken.machine;
         let fresh = waits_after(waits, current.clock.waitcnt, after.clock.waitcnt);
         waits = fresh;

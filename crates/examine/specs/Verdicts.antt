@@ -1,12 +1,13 @@
 -- The examination in parts, as laws: a part that refuses decides the verdict, one that accepts leaves it to the rest; and
 -- what an accepted sheet's tests say of its numbers.
 use Rattle.std.specs.Prelude.{◌≡◌, refl, ◌≢◌, Bool, true, false, not, ◌&&◌, List, [], ◌++◌, length}
-use Rattle.std.specs.Prelude.{ℕ, ◌*◌, ◌≤◌, ◌<◌, eqb, ltb, leb}
-use Rattle.std.proofs.Common.{sym, ap, ◌∙◌, arith, eqb-true, leb-true, lt-ltb, le-ltb}
+use Rattle.std.specs.Prelude.{ℕ, ◌*◌, ◌≤◌, ◌<◌, eqb, ltb}
+use Rattle.std.proofs.Common.{sym, ap, ◌∙◌, arith, eqb-true, lt-ltb, le-ltb}
 use Rattle.std.proofs.lemmas.Bool.{not-true, not-false}
+use Rattle.std.specs.Prelude.{Result, Ok}
 use Rattle.model.specs.Base.{AllBytes}
 use Rattle.model.specs.Memory.{lengths_sum}
-use Rattle.model.specs.Sheet.{latest_version, knows, is_marked, version_of, is_shaped, max_records, record_start}
+use Rattle.model.specs.Sheet.{latest_version, knows, is_marked, version_of, is_shaped, max_records}
 use Rattle.model.specs.Sheet.{record_count, records_from, least_faulty}
 use Rattle.model.specs.BoardBytes.{board_length, answer_length, clock_of}
 use Rattle.model.specs.Outcome.{Lent, Row, row, by_row, first_row, sheet_rows, answers_rows}
@@ -15,6 +16,7 @@ use Rattle.model.specs.Outcome.{refusal_index, verdict_number, outcome_by, outco
 use Rattle.model.specs.Tariff.{share_length, Tariffed, rate_rows, tariff_verdict}
 use Rattle.model.specs.Grounds.{grounds_length, Explaining, grounds_verdict}
 use Rattle.model.specs.Preview.{Asked, no_memories, lent_with, preview_verdict}
+use Rattle.records.specs.Shape.{Shaped, shaped}
 use Rattle.model.specs.Laws.Places.{sizes_small, Sized}
 use Rattle.model.proofs.Laws.Places.{small_sized}
 use Rattle.model.proofs.Laws.Choice.{by_test, eqb_ne, parts, or_true_right, or-false}
@@ -35,6 +37,7 @@ use Rattle.model.specs.declared.Refusal.{Refusal}
 use Rattle.model.specs.declared.Refusal.TheVariants.{BadMark, BadVersion, BadShape, BadLengths}
 use Rattle.model.specs.declared.Refusal.TheVariants.{UnsoundBoard, ShortAnswers, FaultyRecord, BadRate}
 use Rattle.model.specs.Verdict.{Verdict, Accepted, Refused}
+use Rattle.examine.specs.Lent.{verdict_of}
 
 -- ---- a table in two parts
 
@@ -49,6 +52,10 @@ stopped xs ys e r = r ∙ sym (first_append xs ys ∙ ap (λ (v : Verdict). or_e
 -- what is left of the run's table behind its first five rows, and of a preview's behind its first four
 abbrev pub rest_rows : List ℕ → ℕ → List Row
 rest_rows sheet answers = answers_rows (record_count sheet) answers ++ records_rows sheet
+
+-- what was accepted, was by the verdict
+pub accepts : {T : Type 0} {r : Result T Refusal} {v : Verdict} {x : T} → verdict_of r ≡ v → r ≡ Ok x → v ≡ Accepted
+accepts e w = sym e ∙ ap verdict_of w
 
 -- ---- the row of the room
 
@@ -85,16 +92,6 @@ faultless s en ek h =
     sym (row_passes _ _ (le-ltb (fault_index s) (record_count s) (omega (arith, found, en))))
 
 -- ---- numbers
-
-pub record Shaped (s : List ℕ) : Type 0 where
-  pub few : record_count s ≤ max_records
-  pub long : length s ≡ record_start (record_count s)
-
-pub shaped : (s : List ℕ) → is_shaped s ≡ true → Shaped s
-shaped s e =
-    let few : leb (record_count s) max_records ≡ true = search parts in
-    let long : eqb (length s) (record_start (record_count s)) ≡ true = search parts in
-    record { few = leb-true (record_count s) max_records few; long = eqb-true (length s) (record_start (record_count s)) long }
 
 pub sized : (l : Lengths) (bios rom : ℕ) → not (sizes_small l bios rom) ≡ false → Sized l
 sized l bios rom h = small_sized l bios rom (not-false (sizes_small l bios rom) h)

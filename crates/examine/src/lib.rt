@@ -2,19 +2,20 @@
 // written here.
 #![tactic(auto)]
 
-ghost use Rattle.std.specs.Prelude.{◌≡◌, ◌++◌, ◌≤◌};
+ghost use Rattle.std.specs.Prelude.{◌≡◌, ◌++◌, ◌≤◌, IfOk};
 ghost use Rattle.model.specs.Sheet.{max_records};
 ghost use Rattle.model.specs.Outcome as def;
 ghost use Rattle.model.specs.Tariff as tariff;
 ghost use Rattle.model.specs.Preview as preview;
 ghost use Rattle.model.specs.Grounds as reasons;
-ghost use Rattle.examine.specs.Lent.{lent, tariffing, asking, explaining};
-ghost use Rattle.examine.specs.Verdicts.{Shaped, RoomAsked, rest_rows};
+ghost use Rattle.examine.specs.Lent.{lent, tariffing, asking, explaining, verdict_of};
+ghost use Rattle.examine.specs.Verdicts.{RoomAsked, rest_rows};
 
 use model::{
     ANSWER_LENGTH, FIRST_VERSION, LATEST_VERSION, Lengths, MAX_RATE, Refusal, SHARE_LENGTH,
 };
 use records::sheet;
+use records::sheet::Sheet;
 
 // No memory is longer than its physical size, and the seven add up to the store. Each is tested before they are added, so
 // that no sum wraps.
@@ -43,9 +44,10 @@ fn lengths_fit(lengths: Lengths, store: usize, bios: usize, rom: usize) -> bool
 
 // ---- the rows of the table, in parts: what another operation examines is another choice of these
 
-// Mark, version and shape.
-pub fn examine_sheet(sheet: &[u8]) -> Result<(), Refusal>
-    ensures { result ≡ def.first_row (def.sheet_rows sheet.now) }
+// Mark, version and shape. What is accepted is a `Sheet`, whose records can be read.
+pub fn examine_sheet(sheet: &[u8]) -> Result<Sheet<'_>, Refusal>
+    ensures verdict { verdict_of result ≡ def.first_row (def.sheet_rows sheet.now) }
+    ensures same { IfOk result (λ s. s.bytes.now ≡ sheet.now) }
 {
     if !sheet::is_marked(sheet) {
         return Err(Refusal::BadMark);
@@ -57,7 +59,10 @@ pub fn examine_sheet(sheet: &[u8]) -> Result<(), Refusal>
     if !sheet::is_shaped(sheet) {
         return Err(Refusal::BadShape);
     }
-    Ok(())
+    Ok(Sheet {
+        bytes: sheet,
+        version: sheet::rules_of(sheet),
+    })
 }
 
 pub fn examine_lengths(
@@ -84,7 +89,7 @@ pub fn examine_board(board: &[u8]) -> Result<(), Refusal>
 }
 
 // Room for the answers of n records.
-pub fn examine_answers(n: usize, answers: usize) -> Result<(), Refusal>
+fn examine_answers(n: usize, answers: usize) -> Result<(), Refusal>
     requires { n ≤ max_records }
     ensures { result ≡ def.first_row (def.answers_rows n answers) }
 {
@@ -95,7 +100,7 @@ pub fn examine_answers(n: usize, answers: usize) -> Result<(), Refusal>
 }
 
 // Room for the answers of n records, and for `each` bytes a record in a second buffer.
-pub fn examine_room(n: usize, answers: usize, each: usize, second: usize) -> Result<(), Refusal>
+fn examine_room(n: usize, answers: usize, each: usize, second: usize) -> Result<(), Refusal>
     requires { RoomAsked n each }
     ensures { result ≡ def.first_row (def.room_rows n answers each second) }
 {
@@ -105,13 +110,11 @@ pub fn examine_room(n: usize, answers: usize, each: usize, second: usize) -> Res
     examine_answers(n, answers)
 }
 
-// The records of a sheet that has its shape.
-pub fn examine_records(sheet: &[u8]) -> Result<(), Refusal>
-    requires { Shaped sheet.now }
-    ensures { result ≡ def.first_row (def.records_rows sheet.now) }
+// The records of a sheet.
+pub fn examine_records(sheet: Sheet<'_>) -> Result<(), Refusal>
+    ensures { result ≡ def.first_row (def.records_rows sheet.entry.bytes.now) }
 {
-    let n = sheet::record_count(sheet);
-    match sheet::least_faulty(sheet, n) {
+    match sheet.least_faulty() {
         Some(k) => Err(Refusal::FaultyRecord(k)),
         None => Ok(()),
     }
@@ -129,19 +132,19 @@ pub fn examine_rate(rate: u32) -> Result<(), Refusal>
 
 // ---- the tables
 
-// The rows with which the table of a run and of a preview ends: room for the answers, and the records. The sheet has its shape.
-fn examine_rest(sheet: &[u8], answers: usize) -> Result<(), Refusal>
-    requires { Shaped sheet.now }
-    ensures { result ≡ def.first_row (rest_rows sheet.now answers) }
+// The rows with which the table of a run and of a preview ends: room for the answers, and the records.
+fn examine_rest(sheet: Sheet<'_>, answers: usize) -> Result<(), Refusal>
+    ensures { result ≡ def.first_row (rest_rows sheet.entry.bytes.now answers) }
 {
-    examine_answers(sheet::record_count(sheet), answers)?;
+    examine_answers(sheet.count(), answers)?;
     examine_records(sheet)
 }
 
-// All that a caller lends to a run, as it is examined: nothing of it is written.
+// All that a caller lends to a run, as it is examined: nothing of it is written. The sheet is lent for longer: what is accepted is
+// handed on as a `Sheet`, and the rest is then written.
 #[derive(Clone, Copy)]
-pub struct Lent<'a> {
-    pub sheet: &'a [u8],
+pub struct Lent<'s, 'a> {
+    pub sheet: &'s [u8],
     pub board: &'a [u8],
     pub store: &'a [u8],
     pub bios: &'a [u8],
@@ -150,58 +153,62 @@ pub struct Lent<'a> {
     pub lengths: Lengths,
 }
 
-impl<'a> Lent<'a> {
+impl<'s, 'a> Lent<'s, 'a> {
     // The rows with which the table of every run begins: the sheet's head, the lengths, the board.
-    pub fn examine_lent(self) -> Result<(), Refusal>
-        ensures { result ≡ def.first_row (def.lent_rows (lent self.entry)) }
+    fn examine_lent(self) -> Result<Sheet<'s>, Refusal>
+        ensures verdict { verdict_of result ≡ def.first_row (def.lent_rows (lent self.entry)) }
+        ensures same { IfOk result (λ s. s.bytes.now ≡ self.entry.sheet.now) }
     {
-        examine_sheet(self.sheet)?;
+        let sheet = examine_sheet(self.sheet)?;
         examine_lengths(
             self.lengths,
             self.store.len(),
             self.bios.len(),
             self.rom.len(),
         )?;
-        examine_board(self.board)
+        examine_board(self.board)?;
+        Ok(sheet)
     }
 
     // The first row of the run's table that holds.
     #[tactic(auto, unfolding(model::specs::Outcome::verdict))]
-    pub fn examine(self) -> Result<(), Refusal>
-        ensures { result ≡ def.verdict (lent self.entry) }
+    pub fn examine(self) -> Result<Sheet<'s>, Refusal>
+        ensures verdict { verdict_of result ≡ def.verdict (lent self.entry) }
+        ensures same { IfOk result (λ s. s.bytes.now ≡ self.entry.sheet.now) }
     {
-        self.examine_lent()?;
-        examine_rest(self.sheet, self.answers.len())
+        let sheet = self.examine_lent()?;
+        examine_rest(sheet, self.answers.len())?;
+        Ok(sheet)
     }
 
     // The first row of the table of a run with a second buffer, which has `each` bytes a record.
-    fn examine_second(self, each: usize, second: usize) -> Result<(), Refusal>
+    fn examine_second(self, each: usize, second: usize) -> Result<Sheet<'s>, Refusal>
         requires { each ≤ 0xFFFF }
-        ensures { result ≡ def.first_row (def.second_rows (lent self.entry) each second) }
+        ensures verdict { verdict_of result ≡ def.first_row (def.second_rows (lent self.entry) each second) }
+        ensures same { IfOk result (λ s. s.bytes.now ≡ self.entry.sheet.now) }
     {
-        self.examine_lent()?;
-        examine_room(
-            sheet::record_count(self.sheet),
-            self.answers.len(),
-            each,
-            second,
-        )?;
-        examine_records(self.sheet)
+        let sheet = self.examine_lent()?;
+        examine_room(sheet.count(), self.answers.len(), each, second)?;
+        examine_records(sheet)?;
+        Ok(sheet)
     }
 
     // The first row of the tariff's table that holds: the run's, with room for the shares, and then the rate.
     #[tactic(auto, unfolding(model::specs::Tariff::tariff_verdict))]
-    pub fn examine_tariff(self, shares: &[u8], rate: u32) -> Result<(), Refusal>
-        ensures { result ≡ tariff.tariff_verdict (tariffing (lent self.entry) shares.now rate) }
+    pub fn examine_tariff(self, shares: &[u8], rate: u32) -> Result<Sheet<'s>, Refusal>
+        ensures verdict { verdict_of result ≡ tariff.tariff_verdict (tariffing (lent self.entry) shares.now rate) }
+        ensures same { IfOk result (λ s. s.bytes.now ≡ self.entry.sheet.now) }
     {
-        self.examine_second(SHARE_LENGTH, shares.len())?;
-        examine_rate(rate)
+        let sheet = self.examine_second(SHARE_LENGTH, shares.len())?;
+        examine_rate(rate)?;
+        Ok(sheet)
     }
 
     // The first row of the table of a run with grounds that holds: the run's, with room for the grounds.
     #[tactic(auto, unfolding(model::specs::Grounds::grounds_verdict))]
-    pub fn examine_grounds(self, grounds: &[u8]) -> Result<(), Refusal>
-        ensures { result ≡ reasons.grounds_verdict (explaining (lent self.entry) grounds.now) }
+    pub fn examine_grounds(self, grounds: &[u8]) -> Result<Sheet<'s>, Refusal>
+        ensures verdict { verdict_of result ≡ reasons.grounds_verdict (explaining (lent self.entry) grounds.now) }
+        ensures same { IfOk result (λ s. s.bytes.now ≡ self.entry.sheet.now) }
     {
         self.examine_second(model::GROUNDS_LENGTH, grounds.len())
     }
@@ -209,13 +216,19 @@ impl<'a> Lent<'a> {
 
 // The first row of a preview's table that holds: the run's without that of the lengths.
 #[tactic(auto, unfolding(model::specs::Preview::preview_verdict))]
-pub fn examine_preview(sheet: &[u8], board: &[u8], answers: &[u8]) -> Result<(), Refusal>
-    ensures { result ≡ preview.preview_verdict (asking sheet.now board.now answers.now) }
+pub fn examine_preview<'s>(
+    sheet: &'s [u8],
+    board: &[u8],
+    answers: &[u8],
+) -> Result<Sheet<'s>, Refusal>
+    ensures verdict { verdict_of result ≡ preview.preview_verdict (asking sheet.now board.now answers.now) }
+    ensures same { IfOk result (λ s. s.bytes.now ≡ sheet.now) }
 {
-    examine_sheet(sheet)?;
+    let accepted = examine_sheet(sheet)?;
     examine_board(board)?;
     let room = answers.len();
-    examine_rest(sheet, room)
+    examine_rest(accepted, room)?;
+    Ok(accepted)
 }
 
 // The documents' number of a refusal, which reports and bills have; a `From` would stand in model.

@@ -9,7 +9,7 @@ use borrow.Author.Tests.{ne_eqb}
 use borrow.Rule.Slice.PartMut.{put_mid}
 use Rattle.model.specs.Base.{bit, byte_at}
 use Rattle.model.specs.Step.{timed, clock_after}
-use Rattle.model.specs.Sheet.{max_records, record_start, record_at, records_from, step_of}
+use Rattle.model.specs.Sheet.{max_records, record_start, record_count, record_at, records_from, step_of}
 use Rattle.model.specs.BoardBytes.{answer_length}
 use Rattle.model.specs.Alike.{answer_start}
 use Rattle.model.specs.Grounds.{grounds, grounds_after, grounds_length, beat_bytes, grounds_bytes}
@@ -24,6 +24,7 @@ use Rattle.model.proofs.Laws.Explained.{all_widths, grounds_length_law}
 use Rattle.model.specs.declared.Clock.{Clock}
 use Rattle.model.specs.declared.SheetRecord.{SheetRecord}
 use Rattle.model.specs.declared.Step.{Step}
+use Rattle.records.specs.Shape.{Shaped}
 use Rattle.grounds.specs.declared.Trail.{Trail}
 use Rattle.grounds.specs.declared.Before.{Before}
 use Rattle.grounds.specs.Trail.{begins, before_step, beats_by, trail_after, Tells}
@@ -42,6 +43,14 @@ pub record Shows (answers : List ℕ) (k : ℕ) (c : Clock) (r : SheetRecord) : 
   pub count : byte_at answers (answer_start k + 9) ≡ (clock_after c (step_of r)).prefetch.count
   pub force : byte_at answers (answer_start k + 10) ≡ bit (clock_after c (step_of r)).force_next_fetch_n
 
+-- n records of a sheet, each of which has a kind, and the answers of a run of them that began with the clock, a sound one
+pub record OfOneRun (c : Clock) (n : ℕ) (sheet answers : List ℕ) : Type 0 where
+  pub within : n ≤ record_count sheet
+  pub answered : answer_length * n ≤ length answers
+  pub sound : SoundClock c
+  pub kinds : (k : ℕ) → k < n → 1 ≤ (record_at sheet k).kind
+  pub shown : (k : ℕ) → k < n → Shows answers k (clock_past c (steps_to sheet k)) (record_at sheet k)
+
 -- n records that stand in the sheet and have a kind, with their answers and room for their grounds, behind a sound clock
 pub record Explainable (c : Clock) (n : ℕ) (sheet answers grounds : List ℕ) : Type 0 where
   pub few : n ≤ max_records
@@ -51,6 +60,20 @@ pub record Explainable (c : Clock) (n : ℕ) (sheet answers grounds : List ℕ) 
   pub sound : SoundClock c
   pub kinds : (k : ℕ) → k < n → 1 ≤ (record_at sheet k).kind
   pub shown : (k : ℕ) → k < n → Shows answers k (clock_past c (steps_to sheet k)) (record_at sheet k)
+
+-- so it is of a sheet that has its shape, with room for the grounds
+pub explainable : {c : Clock} {n : ℕ} {sheet answers grounds : List ℕ} → OfOneRun c n sheet answers → Shaped sheet
+    → grounds_length * n ≤ length grounds → Explainable c n sheet answers grounds
+explainable a s h =
+    record {
+      few = omega (arith, a.within, s.few);
+      long = omega (arith, a.within, s.long);
+      answered = a.answered;
+      room = h;
+      sound = a.sound;
+      kinds = a.kinds;
+      shown = a.shown;
+    }
 
 -- ---- the clock before a step, as far as it is told
 

@@ -11,11 +11,11 @@ ghost use Rattle.model.specs.Sheet.{max_words, records_from, step_of};
 ghost use Rattle.model.specs.Price as price;
 ghost use Rattle.model.specs.Grounds as def;
 ghost use Rattle.grounds.specs.Trail as trails;
-ghost use Rattle.grounds.specs.Turns.{Explainable};
+ghost use Rattle.grounds.specs.Turns.{OfOneRun};
 
 use model::{ANSWER_LENGTH, AccessSize, Clock, GROUNDS_LENGTH, Ground, IsaState, Region, Step};
 use names::ground_byte;
-use records::sheet::{record_at, rules_of, step_of};
+use records::sheet::{Sheet, step_of};
 
 pub mod names;
 
@@ -312,20 +312,30 @@ fn tell(out: &mut [u8], trail: Trail, before: Before, step: Step, taken: u8) -> 
     }
 }
 
-// The grounds of the first n records, behind a run of them that began with this clock and gave these answers.
+// A run that is over: its sheet, how many of its records were run, the clock that it began with, a sound one, and its answers.
+// Whoever makes one shows that they belong together, so that what tells the grounds asks nothing of the bytes.
+#[derive(Clone, Copy)]
+pub struct Ran<'a> {
+    pub sheet: Sheet<'a>,
+    pub steps: usize,
+    pub clock: Clock,
+    pub answers: &'a [u8],
+    ghost told: { OfOneRun clock steps sheet.bytes.now answers.now },
+}
+
+// The grounds of a run's steps.
 #[tactic(auto, using(crate::specs::Turns::same_room, model::proofs::Laws::Limits::short_step))]
-pub fn put_grounds(sheet: &[u8], n: usize, clock: Clock, answers: &[u8], grounds: &mut [u8])
-    requires { Explainable clock n sheet.now answers.now grounds.old }
+pub fn put_grounds(run: Ran<'_>, grounds: &mut [u8])
+    requires { def.grounds_length * run.steps ≤ length grounds.old }
     ensures { grounds.new
-        ≡ def.grounds_bytes (def.grounds_after clock (map step_of (records_from sheet.now 0 n)))
-        ++ drop (def.grounds_length * n) grounds.old }
+        ≡ def.grounds_bytes (def.grounds_after run.entry.clock (map step_of (records_from run.entry.sheet.bytes.now 0 run.entry.steps)))
+        ++ drop (def.grounds_length * run.entry.steps) grounds.old }
 {
-    let version = rules_of(sheet);
-    let mut trail = begun(clock);
+    let mut trail = begun(run.clock);
     // by number: records, answers and grounds go by strides of their own, and the answer before tells the clock
-    for k in 0..n {
-        let before = before_step(clock, answers, k);
-        let record = record_at(sheet, version, k);
+    for k in 0..run.steps {
+        let before = before_step(run.clock, run.answers, k);
+        let record = run.sheet.record_at(k);
         let step = step_of(record);
         let at = GROUNDS_LENGTH * k;
         trail = tell(
@@ -333,7 +343,7 @@ pub fn put_grounds(sheet: &[u8], n: usize, clock: Clock, answers: &[u8], grounds
             trail,
             before,
             step,
-            answers[ANSWER_LENGTH * k + 8],
+            run.answers[ANSWER_LENGTH * k + 8],
         );
     }
 }

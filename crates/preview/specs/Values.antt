@@ -14,7 +14,7 @@ use Rattle.model.specs.Base.{bytes, number, AllBytes}
 use Rattle.model.specs.Memory.{no_lengths}
 use Rattle.model.specs.Store.{Put, puts, mode_of}
 use Rattle.model.specs.Step.{Media, State, block_stores, run, stepped, answer}
-use Rattle.model.specs.Sheet.{max_records, record_start, record_at, record_count, records_from, records_of, step_of, steps_of}
+use Rattle.model.specs.Sheet.{record_at, record_count, records_from, records_of, step_of, steps_of}
 use Rattle.model.specs.BoardBytes.{answer_length, answer_bytes, answers_bytes}
 use Rattle.model.specs.Outcome.{media_of, first_state, ran}
 use Rattle.model.specs.Preview.{Asked, preview_answers, no_memories, lent_with, each_answer}
@@ -63,10 +63,9 @@ told_bytes kind b {value} {told} h l e t =
     (λ k. ap (bytes 4) (t ∙ if_true _ _ _ k ∙ e) ∙ bytes_number 4 0 b h l ∙ sym (if_true _ _ _ k))
     (λ k. ap (bytes 4) (t ∙ if_false _ _ _ k) ∙ sym (if_false _ _ _ k))
 
--- what the loop asks: n records that stand in the sheet, and their answers
+-- what the loop asks: n records of the sheet, and their answers
 pub record Answered (n : ℕ) (sheet answers : List ℕ) : Type 0 where
-  pub few : n ≤ max_records
-  pub long : record_start n ≤ length sheet
+  pub within : n ≤ record_count sheet
   pub room : answer_length * n ≤ length answers
 
 -- ---- of a run over no memories this is the preview

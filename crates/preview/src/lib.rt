@@ -9,7 +9,8 @@ ghost use Rattle.model.specs.BoardBytes.{answer_length};
 ghost use Rattle.model.specs.Preview.{each_answer};
 ghost use Rattle.preview.specs.Values.{clock_valued, Answered};
 
-use model::{ANSWER_LENGTH, HEADER_LENGTH, RECORD_LENGTH};
+use model::ANSWER_LENGTH;
+use records::sheet::Sheet;
 
 // A value that is chosen, not jumped to: the kinds follow each other in no order, and a jump would often be guessed wrong.
 fn told_value(kind: u8, value: u32) -> u32
@@ -30,13 +31,13 @@ fn put_told(out: &mut [u8], kind: u8)
 
 // The values of n answers, from the last to the first: the last are the ones at hand.
 #[tactic(auto, using(crate::specs::Values::begin, crate::specs::Values::finish))]
-pub fn put_values(sheet: &[u8], n: usize, answers: &mut [u8])
-    requires { Answered n sheet.now answers.old }
+pub fn put_values(sheet: Sheet<'_>, n: usize, answers: &mut [u8])
+    requires { Answered n sheet.bytes.now answers.old }
     ensures { answers.new
-        ≡ each_answer clock_valued (records_from sheet.now 0 n) answers.old }
+        ≡ each_answer clock_valued (records_from sheet.entry.bytes.now 0 n) answers.old }
 {
     for k in (0..n).rev() {
-        let kind = sheet[HEADER_LENGTH + RECORD_LENGTH * k];
+        let kind = sheet.kind_at(k);
         let at = ANSWER_LENGTH * k;
         put_told(&mut answers[at..at + ANSWER_LENGTH], kind);
     }

@@ -1,19 +1,28 @@
 // An answer as bytes. From document 01, "Answer".
-ghost use Rattle.std.specs.Prelude.{◌≡◌, length};
+ghost use Rattle.std.specs.Prelude.{◌≡◌};
 ghost use Rattle.model.specs.BoardBytes as def;
 
-use le::put32;
-use model::Answer;
+use model::{ANSWER_LENGTH, Answer};
 
-// Into a part of the caller's buffer: as an array it would have to be made one at each call.
-pub fn put_answer(out: &mut [u8], x: Answer)
-    requires { length out.old ≡ def.answer_length }
-    ensures { out.new ≡ def.answer_bytes x }
+// Two words and four bytes. They are handed back, and not put in a part of the buffer, so that nothing is asked of a length; tried,
+// the compiler makes the same code of both.
+pub fn answer_bytes(x: Answer) -> [u8; ANSWER_LENGTH]
+    ensures { result ≡ def.answer_bytes x }
 {
-    put32(&mut out[0..4], x.value);
-    put32(&mut out[4..8], x.cycles);
-    out[8] = x.hits;
-    out[9] = x.count;
-    out[10] = x.force as u8;
-    out[11] = 0;
+    let [v0, v1, v2, v3] = x.value.to_le_bytes();
+    let [c0, c1, c2, c3] = x.cycles.to_le_bytes();
+    [
+        v0,
+        v1,
+        v2,
+        v3,
+        c0,
+        c1,
+        c2,
+        c3,
+        x.hits,
+        x.count,
+        x.force as u8,
+        0,
+    ]
 }

@@ -2,6 +2,7 @@
 // table of kinds.
 ghost use Rattle.std.specs.Prelude.{◌≡◌, ◌+◌, ◌*◌, ◌≤◌, ◌<◌, length, unwrap_or, IfSome};
 ghost use Rattle.model.specs.Sheet as def;
+ghost use Rattle.records.specs.Shape.{Shaped};
 
 use le::{byte_at, half_at, read32};
 use model::{
@@ -57,21 +58,49 @@ pub fn is_shaped(sheet: &[u8]) -> bool
 
 // ---- a record
 
-// Record number k of a sheet of that version, which its reader reads once.
-#[tactic(auto, unfolding(model::specs::Sheet::record_at, model::specs::Sheet::rules_of))]
-pub fn record_at(sheet: &[u8], version: Version, k: usize) -> SheetRecord
-    requires { (def.record_start k + def.record_length ≤ length sheet.now) × (version ≡ def.rules_of sheet.now) }
-    ensures { result ≡ def.record_at sheet.now k }
-{
-    let at = HEADER_LENGTH + RECORD_LENGTH * k;
-    SheetRecord {
-        version,
-        kind: sheet[at],
-        size: sheet[at + 1],
-        flag: sheet[at + 2],
-        zero_byte: sheet[at + 3],
-        address: read32(sheet, at + 4),
-        value: read32(sheet, at + 8),
+// A sheet that has its shape, with the version by whose rules it is read. Whoever makes one shows both, by the examination, so
+// that what reads records asks nothing of the bytes, and reads the version once.
+#[derive(Clone, Copy)]
+pub struct Sheet<'a> {
+    pub bytes: &'a [u8],
+    pub version: Version,
+    ghost shaped: { Shaped bytes.now },
+    ghost ruled: { version ≡ def.rules_of bytes.now },
+}
+
+impl<'a> Sheet<'a> {
+    // How many records it has.
+    pub fn count(self) -> usize
+        ensures { result ≡ def.record_count self.entry.bytes.now }
+    {
+        record_count(self.bytes)
+    }
+
+    // The kind of record number k.
+    #[tactic(auto, unfolding(model::specs::Sheet::record_at))]
+    pub fn kind_at(self, k: usize) -> u8
+        requires { k < def.record_count self.bytes.now }
+        ensures { result ≡ (def.record_at self.entry.bytes.now k).kind }
+    {
+        self.bytes[HEADER_LENGTH + RECORD_LENGTH * k]
+    }
+
+    // Record number k.
+    #[tactic(auto, unfolding(model::specs::Sheet::record_at, model::specs::Sheet::rules_of))]
+    pub fn record_at(self, k: usize) -> SheetRecord
+        requires { k < def.record_count self.bytes.now }
+        ensures { result ≡ def.record_at self.entry.bytes.now k }
+    {
+        let at = HEADER_LENGTH + RECORD_LENGTH * k;
+        SheetRecord {
+            version: self.version,
+            kind: self.bytes[at],
+            size: self.bytes[at + 1],
+            flag: self.bytes[at + 2],
+            zero_byte: self.bytes[at + 3],
+            address: read32(self.bytes, at + 4),
+            value: read32(self.bytes, at + 8),
+        }
     }
 }
 
@@ -151,33 +180,35 @@ fn last_kind(version: Version) -> u8
     }
 }
 
-// The least faulty of n records, if one is faulty, in one pass. A record is held against the row of its kind; the flag and the
-// zero byte behind it are one number. The kind is not branched on: kinds follow each other in no order, so that a branch
-// would often be guessed wrong. The table is put in place once, not for each record.
-#[tactic(auto, unfolding(model::specs::Sheet::records_from, model::specs::Sheet::first_of))]
-pub fn least_faulty(sheet: &[u8], n: usize) -> Option<usize>
-    requires { def.header_length + def.record_length * n ≤ length sheet.now }
-    ensures first { unwrap_or result n ≡ def.least_faulty (def.records_from sheet.now 0 n) }
-    ensures within { IfSome result (λ k. k < n) }
-{
-    let kinds = KINDS;
-    let version = rules_of(sheet);
-    let last = last_kind(version);
-    for k in 0..n {
-        let r = record_at(sheet, version, k);
-        // no row for the kind, or no bit for the size
-        if (r.kind > last) | (r.size > 4) {
-            return Some(k);
+impl<'a> Sheet<'a> {
+    // The least faulty record, if one is faulty, in one pass. A record is held against the row of its kind; the flag and the zero
+    // byte behind it are one number. The kind is not branched on: kinds follow each other in no order, so that a branch would
+    // often be guessed wrong. The table is put in place once, not for each record.
+    #[tactic(auto, unfolding(model::specs::Sheet::records_from, model::specs::Sheet::first_of))]
+    pub fn least_faulty(self) -> Option<usize>
+        ensures first { unwrap_or result (def.record_count self.entry.bytes.now)
+            ≡ def.least_faulty (def.records_of self.entry.bytes.now) }
+        ensures within { IfSome result (λ k. k < def.record_count self.entry.bytes.now) }
+    {
+        let kinds = KINDS;
+        let last = last_kind(self.version);
+        let n = self.count();
+        for k in 0..n {
+            let r = self.record_at(k);
+            // no row for the kind, or no bit for the size
+            if (r.kind > last) | (r.size > 4) {
+                return Some(k);
+            }
+            let [sizes, flag, address, value, least] = kinds[r.kind as usize];
+            let fits = ((sizes >> r.size as u32) % 2 == 1)
+                & (u16::from_le_bytes([r.flag, r.zero_byte]) as u32 <= flag)
+                & (r.address <= address)
+                & (r.value <= value)
+                & (least <= r.value);
+            if !fits {
+                return Some(k);
+            }
         }
-        let [sizes, flag, address, value, least] = kinds[r.kind as usize];
-        let fits = ((sizes >> r.size as u32) % 2 == 1)
-            & (u16::from_le_bytes([r.flag, r.zero_byte]) as u32 <= flag)
-            & (r.address <= address)
-            & (r.value <= value)
-            & (least <= r.value);
-        if !fits {
-            return Some(k);
-        }
+        None
     }
-    None
 }

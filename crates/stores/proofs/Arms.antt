@@ -2,7 +2,7 @@
 -- definitions. Assumes nothing.
 use mathlib.Core.Path.{◌≡◌, refl, ◌∙◌, ap, sym}
 use mathlib.Core.List.{List, []}
-use mathlib.Core.Bool.{Bool, true, false, not}
+use mathlib.Core.Bool.{Bool, true, false}
 use Prim.Native.Nat.{ℕ, ◌-◌, ◌*◌, ◌%◌, ◌≤◌, ◌<◌}
 use native.Mathlib.Omega.{arith}
 use lib.ListN.{length}
@@ -23,9 +23,9 @@ use Rattle.model.proofs.Laws.Choice.{choose, either}
 use Rattle.model.specs.declared.AccessSize.{AccessSize}
 use Rattle.model.specs.declared.AccessSize.TheVariants.{Byte, Half, Word}
 use Rattle.model.specs.declared.Part.{Part}
-use Rattle.stores.specs.Stored.{Filled, StoredVideo}
+use Rattle.stores.specs.Stored.{Filled, StoredVideo, nothing_stored, target_at, fills_there}
 use Rattle.parts.proofs.LentPart.{back, lent_of, IsRange, put_moves, aligned_moves, video_moves, lent_stores}
-use Rattle.parts.specs.Stored.{store_report, Stores, whole, drops, same_puts, counting}
+use Rattle.parts.specs.Stored.{store_report, Stores, whole, same_puts, counting}
 use Rattle.parts.specs.declared.Stored.{Stored}
 use Rattle.model.specs.declared.VideoMemory.TheVariants.{VideoRam}
 use Rattle.video.specs.Actions.{vram_target, vram_class, doubled, fills_halfword, byte_action}
@@ -67,22 +67,23 @@ pub is_filled : (p : Part) (i v : ℕ) {t : Bool} {h : ℕ} {before after : List
     → Stores (put_aligned p i 2 h) 0 before after r → Filled t p i v before after (store_report r.landed 1)
 is_filled p i v e f s = rw e (counting 1 (same_puts (ap (λ (n : ℕ). put_aligned p i 2 n) f) s))
 
-pub not_filled : (p : Part) (i v : ℕ) {t : Bool} {s : List ℕ} {r : Stored} → t ≡ false → Stores [] 0 [] [] r
+-- what no memory takes leaves the store as it was
+pub nothing_lands : {s : List ℕ} {r : Stored} → r ≡ nothing_stored → Stores [] 0 s s r
+nothing_lands e =
+    record { bytes = refl; number = ap (λ (x : Stored). x.landed) e; halfwords = ap (λ (x : Stored). x.halfwords) e }
+
+pub not_filled : (p : Part) (i v : ℕ) {t : Bool} {s : List ℕ} {r : Stored} → t ≡ false → r ≡ nothing_stored
     → Filled t p i v s s r
-not_filled p i v e f = rw e (drops f)
+not_filled p i v e f = rw e (nothing_lands f)
 
 -- ---- the place in VRAM, by its class
 
-class_case : (t : Bool) {u : VideoTarget} → Some (vram_target t) ≡ Some u → fills_halfword u ≡ not t
-class_case true e = cc
-class_case false e = cc
-
-within_fills : (mode i : ℕ) {m : ℕ} {x : Option VideoTarget} {t : VideoTarget} → m ≡ mode → x ≡ vram_class i m → x ≡ Some t
-    → fills_halfword t ≡ fills mode VideoRam i
+within_is : (mode i : ℕ) {m : ℕ} {x : Option VideoTarget} {t : VideoTarget} → m ≡ mode → x ≡ vram_class i m → x ≡ Some t
+    → t ≡ vram_target (is_obj_vram mode i)
 unfolding vram_class
-within_fills mode i {m} {x} {t} p e f =
-    choose (λ (y : Option VideoTarget). y ≡ Some t → fills_halfword t ≡ fills mode VideoRam i) (ltb i vram_size)
-    (λ h. class_case (is_obj_vram mode i))
+within_is mode i {m} {x} {t} p e f =
+    choose (λ (y : Option VideoTarget). y ≡ Some t → t ≡ vram_target (is_obj_vram mode i)) (ltb i vram_size)
+    (λ h g. cc)
     (λ h g. let z : ◌≡◌ {A = ℕ} 0 1 = cc in absurd (omega arith))
     (ap (vram_class i) (sym p) ∙ sym e ∙ f)
 
@@ -90,33 +91,34 @@ base_within : (mode : ℕ) → obj_vram_base mode ≤ vram_size
 unfolding obj_vram_base
 base_within mode = either (λ (n : ℕ). n ≤ vram_size) (leb mode 2) (lit≤ tt) (lit≤ tt)
 
--- past its 96 KiB nothing is filled
-outside_drops : (mode i : ℕ) {m : ℕ} {x : Option VideoTarget} → m ≡ mode
-    → x ≡ vram_class i m → x ≡ None → false ≡ fills mode VideoRam i
+-- past its 96 KiB lies what lies in object VRAM, wherever that starts
+outside_is : (mode i : ℕ) {m : ℕ} {x : Option VideoTarget} → m ≡ mode
+    → x ≡ vram_class i m → x ≡ None → ObjVram ≡ vram_target (is_obj_vram mode i)
 unfolding vram_class is_obj_vram
-outside_drops mode i {m} {x} p e f =
-    choose (λ (y : Option VideoTarget). y ≡ None → false ≡ fills mode VideoRam i) (ltb i vram_size)
+outside_is mode i {m} {x} p e f =
+    choose (λ (y : Option VideoTarget). y ≡ None → ObjVram ≡ vram_target (is_obj_vram mode i)) (ltb i vram_size)
     (λ h g. let z : ◌≡◌ {A = ℕ} 0 1 = cc in absurd (omega arith))
-    (λ h g. sym (ap not (le-leb (obj_vram_base mode) i (omega (arith, base_within mode, ltb-false i vram_size h)))))
+    (λ h g. sym (ap vram_target (le-leb (obj_vram_base mode) i (omega (arith, base_within mode, ltb-false i vram_size h)))))
     (ap (vram_class i) (sym p) ∙ sym e ∙ f)
 
-pub unwrapped_fills : (mode i : ℕ) {m : ℕ} {x : Option VideoTarget} → m ≡ mode → x ≡ vram_class i m
-    → fills_halfword (unwrap_or x ObjVram) ≡ fills mode VideoRam i
-unwrapped_fills mode i {x = Some t} p e = within_fills mode i p e refl
-unwrapped_fills mode i {x = None} p e = outside_drops mode i p e refl
+pub unwrapped_is : (mode i : ℕ) {m : ℕ} {x : Option VideoTarget} → m ≡ mode → x ≡ vram_class i m
+    → unwrap_or x ObjVram ≡ target_at mode VideoRam i
+unwrapped_is mode i {x = Some t} p e = within_is mode i p e refl
+unwrapped_is mode i {x = None} p e = outside_is mode i p e refl
 
 -- ---- the bytes of each size
 
 -- a byte store to video memory, from what its place is called
-pub byte_video : (p : Part) (i v : ℕ) {f g : Bool} {before after : List ℕ} {r : Stored}
-    → f ≡ g → Filled f p i (v % 256) before after r
-    → Filled g p i v before after r
-byte_video p i v {f} {g} {before} e s =
+pub byte_video : (mode : ℕ) (k : VideoMemory) (p : Part) (i v : ℕ) {t : VideoTarget} {before after : List ℕ} {r : Stored}
+    → t ≡ target_at mode k i → Filled (fills_halfword t) p i (v % 256) before after r
+    → Filled (fills mode k i) p i v before after r
+byte_video mode k p i v {t} {before} e s =
     let low : v % 256 % 256 ≡ v % 256 = omega arith in
+    let f : fills_halfword t ≡ fills mode k i = ap fills_halfword e ∙ fills_there mode k i in
     record {
-      bytes = s.bytes ∙ ap (λ (t : Bool). landed before (video_puts t Byte p i (v % 256))) e ∙ rw low;
-      number = s.number ∙ ap (λ (t : Bool). length (video_puts t Byte p i (v % 256))) e ∙ rw low;
-      halfwords = s.halfwords ∙ ap bit e;
+      bytes = s.bytes ∙ ap (λ (u : Bool). landed before (video_puts u Byte p i (v % 256))) f ∙ rw low;
+      number = s.number ∙ ap (λ (u : Bool). length (video_puts u Byte p i (v % 256))) f ∙ rw low;
+      halfwords = s.halfwords ∙ ap bit f;
     }
 
 -- ---- SRAM takes one byte: that of the address within the size

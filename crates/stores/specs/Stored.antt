@@ -1,7 +1,8 @@
--- What each store does and reports, by size and memory: cases of the one contract `Stores`.
-use Rattle.std.specs.Prelude.{◌≡◌, Bool, List, ℕ, length}
+-- What each store does and reports, by size and memory: cases of the one contract `Stores`; and which video target a place is.
+use Rattle.std.specs.Prelude.{◌≡◌, refl, Bool, true, false, not, List, ℕ, length}
 use Rattle.model.specs.Memory.{lengths_sum}
 use Rattle.model.specs.Base.{bit}
+use Rattle.model.specs.Video.{is_obj_vram, fills}
 use Rattle.model.specs.Wait.{size_bytes_of}
 use Rattle.model.specs.Store.{mode_of, put_aligned, video_puts, puts_at, halfwords, video_count}
 use Rattle.model.specs.Laws.Places.{Lies}
@@ -11,8 +12,34 @@ use Rattle.model.specs.declared.Lengths.{Lengths}
 use Rattle.model.specs.declared.Part.{Part}
 use Rattle.model.specs.declared.Target.{Target}
 use Rattle.model.specs.declared.Target.TheVariants.{Unused, SystemRom, GamePakRom, Plain, Video, Sram}
-use Rattle.parts.specs.Stored.{Stores}
+use Rattle.model.specs.declared.VideoMemory.{VideoMemory}
+use Rattle.model.specs.declared.VideoMemory.TheVariants.{PaletteRam, VideoRam, ObjectRam}
+use Rattle.parts.specs.Stored.{store_report, Stores}
 use Rattle.parts.specs.declared.Stored.{Stored}
+use Rattle.video.specs.Actions.{vram_target, fills_halfword}
+use Rattle.video.specs.declared.VideoTarget.{VideoTarget}
+use Rattle.video.specs.declared.VideoTarget.TheVariants.{Palette, Oam}
+
+-- no byte landed, and no halfword counts
+abbrev pub nothing_stored : Stored
+nothing_stored = store_report 0 0
+
+-- which video target stands at a place of a memory: in VRAM the background's or the objects', by the display mode. What lies past
+-- VRAM's end lies past where object VRAM starts, and is called the same
+abbrev pub target_at : ℕ → VideoMemory → ℕ → VideoTarget
+target_at mode PaletteRam i = Palette
+target_at mode VideoRam i = vram_target (is_obj_vram mode i)
+target_at mode ObjectRam i = Oam
+
+-- a byte that is stored there fills its halfword where the model says so
+vram_fills : (objects : Bool) → fills_halfword (vram_target objects) ≡ not objects
+vram_fills true = refl
+vram_fills false = refl
+
+pub fills_there : (mode : ℕ) (k : VideoMemory) (i : ℕ) → fills_halfword (target_at mode k i) ≡ fills mode k i
+fills_there mode PaletteRam i = refl
+fills_there mode VideoRam i = vram_fills (is_obj_vram mode i)
+fills_there mode ObjectRam i = refl
 
 -- a byte store to video memory that fills its halfword, or doesn't
 abbrev pub Filled : Bool → Part → ℕ → ℕ → List ℕ → List ℕ → Stored → Type 0

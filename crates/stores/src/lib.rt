@@ -7,9 +7,9 @@ ghost use Rattle.std.specs.Prelude.{◌≡◌, [], ◌+◌, ◌^◌, ◌≤◌, 
 ghost use Rattle.model.specs.Memory.{lengths_sum};
 ghost use Rattle.model.specs.Video.{fills};
 ghost use Rattle.model.specs.Store as def;
-ghost use Rattle.parts.specs.Stored.{Stores, whole};
+ghost use Rattle.parts.specs.Stored.{whole};
 ghost use Rattle.model.specs.Laws.Places.{Lies};
-ghost use Rattle.stores.specs.Stored.{Filled, StoredVideo, StoredAt, StoredWord, Storable};
+ghost use Rattle.stores.specs.Stored.{nothing_stored, target_at, Filled, StoredVideo, StoredAt, StoredWord, Storable};
 ghost use Rattle.model.specs.declared.VideoMemory.TheVariants.{VideoRam};
 ghost use Rattle.video.specs.Actions.{fills_halfword};
 
@@ -32,7 +32,7 @@ fn dispcnt_bg_mode(store: &[u8], lengths: Lengths) -> u8
 #[tactic(auto, unfolding(model::specs::Video::is_obj_vram, model::specs::Video::obj_vram_base, video::specs::Actions::vram_class))]
 fn video_target(kind: VideoMemory, index: usize, mode: u8) -> VideoTarget
     requires { index < 2 ^ 32 }
-    ensures { fills_halfword result ≡ fills mode kind index }
+    ensures { result ≡ target_at mode kind index }
 {
     match kind {
         VideoMemory::PaletteRam => VideoTarget::Palette,
@@ -45,7 +45,7 @@ fn video_target(kind: VideoMemory, index: usize, mode: u8) -> VideoTarget
 
 // A store that no memory takes: nothing lands, and nothing counts.
 fn dropped() -> Stored
-    ensures { Stores [] 0 [] [] result }
+    ensures { result ≡ nothing_stored }
 {
     Stored {
         landed: 0,

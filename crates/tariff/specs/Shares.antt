@@ -19,6 +19,13 @@ pub record Payable (rate cycles : ℕ) : Type 0 where
   pub most : rate ≤ max_rate
   pub few : cycles ≤ max_records * 0xFFFF_FFFF
 
+-- the answers of n steps of a run, and the sum of their cycles
+pub record Summed (n total : ℕ) (answers : List ℕ) : Type 0 where
+  pub few : n ≤ max_records
+  pub answered : answer_length * n ≤ length answers
+  pub summed : total ≡ cycles_to answers n
+  pub most : total ≤ max_records * 0xFFFF_FFFF
+
 -- the answers of n steps, the sum of their cycles, and room for their shares
 pub record Billable (n total rate : ℕ) (answers lent : List ℕ) : Type 0 where
   pub few : n ≤ max_records
@@ -26,6 +33,18 @@ pub record Billable (n total rate : ℕ) (answers lent : List ℕ) : Type 0 wher
   pub room : share_length * n ≤ length lent
   pub summed : total ≡ cycles_to answers n
   pub payable : Payable rate total
+
+-- so it is under a rate that is not too high
+pub billable : {n total rate : ℕ} {answers lent : List ℕ} → Summed n total answers → rate ≤ max_rate
+    → share_length * n ≤ length lent → Billable n total rate answers lent
+billable s r h =
+    record {
+      few = s.few;
+      answered = s.answered;
+      room = h;
+      summed = s.summed;
+      payable = record { most = r; few = s.most };
+    }
 
 pub payable_fits : {rate cycles : ℕ} → Payable rate cycles → cost rate cycles < 2 ^ 64
 payable_fits {rate} {cycles} p = cost_fits rate cycles p.most (omega (arith, p.few))

@@ -1,10 +1,10 @@
 // The contract's tariff: what cycles cost at a rate, and each step's share of what a run costs. From document 02, W-202.
 #![tactic(auto)]
 
-ghost use Rattle.std.specs.Prelude.{◌≡◌};
+ghost use Rattle.std.specs.Prelude.{◌≡◌, ◌*◌, ◌≤◌, length};
 ghost use Rattle.model.specs.Alike.{cycles_from};
 ghost use Rattle.model.specs.Tariff as def;
-ghost use Rattle.tariff.specs.Shares.{Payable, Billable};
+ghost use Rattle.tariff.specs.Shares.{Payable, Summed};
 
 use model::{ANSWER_LENGTH, RATE_CYCLES, SHARE_LENGTH};
 
@@ -25,15 +25,26 @@ pub fn charge(cycles: u64, rate: u32) -> u64
     cost_of(cycles, rate) / RATE_CYCLES
 }
 
-// The shares of n steps, from the cycles that stand in their answers and come to `total`. No step is rounded by itself: what is
-// rounded is the charge up to it. From the last step to the first, since the charge of all is known, and the last answers are the
-// ones at hand.
-#[tactic(auto, using(crate::specs::Shares::begin, crate::specs::Shares::finish))]
-pub fn put_shares(answers: &[u8], n: usize, total: u64, rate: u32, shares: &mut [u8])
-    requires { Billable n total rate answers.now shares.old }
-    ensures { shares.new ≡ def.shares_in shares.old rate (cycles_from answers.now 0 n) n }
+// The answers of a run, and what their cycles come to. Whoever makes one shows it, by the run, so that what shares the charge
+// asks nothing of the bytes.
+#[derive(Clone, Copy)]
+pub struct Ran<'a> {
+    pub answers: &'a [u8],
+    pub steps: usize,
+    pub total: u64,
+    ghost summed: { Summed steps total answers.now },
+}
+
+// The shares of a run's steps, from the cycles that stand in their answers. No step is rounded by itself: what is rounded is the
+// charge up to it. From the last step to the first, since the charge of all is known, and the last answers are the ones at hand.
+#[tactic(auto, using(crate::specs::Shares::begin, crate::specs::Shares::finish, crate::specs::Shares::billable))]
+pub fn put_shares(run: Ran<'_>, rate: u32, shares: &mut [u8])
+    requires { (rate ≤ def.max_rate) × (def.share_length * run.steps ≤ length shares.old) }
+    ensures { shares.new ≡ def.shares_in shares.old rate (cycles_from run.entry.answers.now 0 run.entry.steps) run.entry.steps }
 {
-    let mut cost = cost_of(total, rate);
+    let n = run.steps;
+    let answers = run.answers;
+    let mut cost = cost_of(run.total, rate);
     let mut due = cost / RATE_CYCLES;
     for k in (0..n).rev() {
         let cycles = le::read32(answers, ANSWER_LENGTH * k + 4);
