@@ -24,7 +24,7 @@ use Rattle.model.proofs.Laws.Limits.{steps_take}
 use Rattle.model.proofs.Laws.Demand3.{accounts}
 use Rattle.model.specs.Laws.Explained.{GroundsAcceptable}
 use Rattle.model.proofs.Laws.Explained.{grounds_accepted}
-use Rattle.examine.specs.Verdicts.{Ready, ready}
+use Rattle.examine.specs.Verdicts.{Ready, accepted_ready}
 use Rattle.grounds.specs.Turns.{Shows, OfOneRun, steps_to}
 use Rattle.model.specs.declared.Clock.{Clock}
 use Rattle.model.specs.declared.SheetRecord.{SheetRecord}
@@ -86,7 +86,7 @@ module _ (e : Explaining) (yes : grounds_verdict e ≡ Accepted) where
   explained_accepts = number_zero e.run ((zero_exactly e.run).1 asked.run)
 
   pub here : Ready e.run
-  here = ready e.run explained_accepts
+  here = accepted_ready e.run explained_accepts
 
   -- the clock before step k
   clock_at_law : (k : ℕ) → k < record_count e.run.sheet

@@ -19,7 +19,7 @@ use Rattle.model.proofs.Laws.Billed.{tariff_accepted}
 use Rattle.model.proofs.Laws.Previewed.{bare_verdict, preview_total}
 use Rattle.step.specs.Begun.{state_from}
 use Rattle.examine.specs.Lent.{lending}
-use Rattle.examine.specs.Verdicts.{Ready, ready}
+use Rattle.examine.specs.Verdicts.{Ready, accepted_ready}
 use Rattle.tariff.specs.Shares.{Payable, Summed}
 use Rattle.preview.specs.Values.{clock_valued, Answered, preview_from}
 use Rattle.bts.specs.Beginning.{Beginning, Ends, answers_size}
@@ -168,7 +168,7 @@ module _ (t : Tariffed) (yes : tariff_verdict t ≡ Accepted) where
       pub summed : Summed r.index r.total answers
       summed =
           record {
-            few = omega (arith, records_here, (ready t.run run_accepts).shaped.few);
+            few = omega (arith, records_here, (accepted_ready t.run run_accepts).shaped.few);
             answered = omega (arith, records_here, answers_long t.run ran_is);
             summed = ap (λ (o : Outcome). o.total) ran_is ∙ sym (ap sum cycles_are);
             most = payable.few;
@@ -224,7 +224,7 @@ module _ (q : Asked) (yes : preview_verdict q ≡ Accepted) where
   bare_accepts = bare_verdict q ∙ yes
 
   pub bare_ready : Ready bare
-  bare_ready = ready bare bare_accepts
+  bare_ready = accepted_ready bare bare_accepts
 
   module _ {r : Report} {board store answers : List ℕ} (ran_is : reported r board store answers ≡ outcome_by bare Accepted) where
     all_answered : r.index ≡ record_count q.sheet

@@ -120,8 +120,8 @@ fit_sum : (l : Lengths) (store bios rom : ℕ) → sizes_fit l store bios rom �
 unfolding sizes_fit
 fit_sum l store bios rom e = eqb-true (lengths_sum l) store (search parts)
 
-pub ready : (i : Lent) → verdict i ≡ Accepted → Ready i
-ready i e =
+pub accepted_ready : (i : Lent) → verdict i ≡ Accepted → Ready i
+accepted_ready i e =
     let a : Acceptable i = accepted_acceptable i e in
     record {
       board = (sound_formed i.board a.board).size;

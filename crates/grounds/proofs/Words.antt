@@ -6,7 +6,7 @@ use mathlib.Core.List.{map-append}
 use lib.ListN.{length-map}
 use lib.Seq.{append_snoc, set_at}
 use Rattle.model.specs.Base.{further}
-use Rattle.model.specs.Price.{Bus, OnEwram, OnVideo, OnRom, OnSram, OnFast, bus_of}
+use Rattle.model.specs.Price.{BusKind, OnEwram, OnVideo, OnRom, OnSram, OnFast, bus_kind}
 use Rattle.model.specs.Region.{decode}
 use Rattle.model.specs.Wait.{aligned}
 use Rattle.model.specs.Sheet.{max_words}
@@ -33,9 +33,9 @@ ground_behind gs g place e h =
 
 -- the beats of a word are at most two
 word_few : (next : Option ℕ) (a : ℕ) → length (data_from next Word a) ≤ 2
-word_few next a = by (bus_of (decode a))
+word_few next a = by (bus_kind (decode a))
   where
-    by : (b : Bus) → length (data_grounds_on Word (ground_at next (aligned Word a)) b) ≤ 2
+    by : (b : BusKind) → length (data_grounds_on Word (ground_at next (aligned Word a)) b) ≤ 2
     by OnEwram = omega arith
     by OnVideo = omega arith
     by (OnRom win) = omega arith

@@ -13,7 +13,7 @@ use Rattle.model.specs.Prefetch.{occupied, hit, taken, fetched}
 use Rattle.model.specs.Region.{decode}
 use Rattle.model.specs.Price.{previous, access_of, block_previous, kind_after}
 use Rattle.model.specs.declared.Previous.{Previous}
-use Rattle.model.specs.Price.{wide, Bus, OnEwram, OnVideo, OnRom, OnSram, OnFast, bus_of}
+use Rattle.model.specs.Price.{wide, BusKind, OnEwram, OnVideo, OnRom, OnSram, OnFast, bus_kind}
 use Rattle.model.specs.Timing.{code_size}
 use Rattle.model.specs.Step.{waits_of, set_waitcnt, priced, rom_fetched, fetched_in, code_fetched, code_clock, timed, clock_after}
 use Rattle.model.specs.Sheet.{step_of}
@@ -246,9 +246,9 @@ next_ground p n s r =
 
 pub data_same : (p : Previous) (z : AccessSize) (a : ℕ) → SoundPrevious p → data_from (next_of p) z a ≡ data_grounds p z a
 unfolding data_grounds
-data_same p z a s = by (bus_of (decode a)) refl
+data_same p z a s = by (bus_kind (decode a)) refl
   where
-    by : (b : Bus) → bus_of (decode a) ≡ b
+    by : (b : BusKind) → bus_kind (decode a) ≡ b
         → data_grounds_on z (ground_at (next_of p) (aligned z a)) b ≡ data_grounds_on z (first_ground p (aligned z a)) b
     by OnEwram e = refl
     by OnVideo e = refl
@@ -294,9 +294,9 @@ Counted c taken (BlockRead a n) = Unit {0}
 Counted c taken (BlockWrite a n) = Unit {0}
 
 -- the hits byte of any record but WRITE and BLOCK WRITE is such
-pub counted : (c : Clock) (r : SheetRecord) (taken : ℕ) → (r.kind ≢ 2 → r.kind ≢ 11 → taken ≡ (timed c (step_of r)).hits)
+pub counted_hits : (c : Clock) (r : SheetRecord) (taken : ℕ) → (r.kind ≢ 2 → r.kind ≢ 11 → taken ≡ (timed c (step_of r)).hits)
     → Counted c taken (step_of r)
-counted c r taken =
+counted_hits c r taken =
     by_kind (λ (k : ℕ) (x : Step). (k ≢ 2 → k ≢ 11 → taken ≡ (timed c x).hits) → Counted c taken x) r
     (λ h. tt) (λ h. tt) (λ h. tt) (λ h. tt) (λ h. h (omega arith) (omega arith)) (λ h. tt) (λ h. tt) (λ h. tt) (λ h. tt)
     (λ h. tt) (λ o h. tt)

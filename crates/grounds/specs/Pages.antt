@@ -10,7 +10,7 @@ use Rattle.model.specs.Base.{further}
 use Rattle.model.specs.Region.{page, region_at, decode, bios_size}
 use Rattle.model.specs.Wait.{window, is_in, in_window}
 use Rattle.model.specs.Timing.{code_size}
-use Rattle.model.specs.Price.{wide, Bus, OnEwram, OnVideo, OnRom, OnSram, OnFast, bus_of}
+use Rattle.model.specs.Price.{wide, BusKind, OnEwram, OnVideo, OnRom, OnSram, OnFast, bus_kind}
 use Rattle.model.specs.Grounds.{ground_byte, half_ground, plain_ground, fetch_grounds_in, fetch_grounds, data_grounds_on, beat_bytes}
 use Rattle.model.proofs.Laws.Choice.{choose, choose₂, either, by_test, tests, and_true_left, and_true_right}
 use Rattle.model.specs.declared.Ground.{Ground}
@@ -31,14 +31,14 @@ abbrev pub second_beats : ℕ
 second_beats = 0x0022_2222_0880_0600
 
 -- what they must be, by the bus: 0 for ROM, where the ground is not the bus's alone, and 0 for no second beat
-abbrev first_byte : Bus → ℕ
+abbrev first_byte : BusKind → ℕ
 first_byte OnEwram = 6
 first_byte OnVideo = 8
 first_byte (OnRom win) = 0
 first_byte OnSram = 7
 first_byte OnFast = 9
 
-abbrev second_byte : Bus → ℕ
+abbrev second_byte : BusKind → ℕ
 second_byte OnEwram = 6
 second_byte OnVideo = 8
 second_byte (OnRom win) = 2
@@ -59,7 +59,7 @@ below (suc n) f e p h =
     (λ t. below n f (and_true_right (f n) (all_below n f) e) p (omega (arith, tests)))
 
 -- the bus goes by the page alone
-page_bus : (p a b : ℕ) → bus_of (region_at p a) ≡ bus_of (region_at p b)
+page_bus : (p a b : ℕ) → bus_kind (region_at p a) ≡ bus_kind (region_at p b)
 page_bus p a b =
     choose₂ P (nat_lt p 0x08)
     (λ e. choose₂ P (p == 0x00)
@@ -68,13 +68,13 @@ page_bus p a b =
     λ e. refl
   where
     P : Region → Region → Type 0
-    P r s = bus_of r ≡ bus_of s
+    P r s = bus_kind r ≡ bus_kind s
 
-    low : (n : ℕ) → bus_of (if ltb n bios_size then Bios else UnusedLow) ≡ OnFast
-    low n = either (λ (r : Region). bus_of r ≡ OnFast) (nat_lt n bios_size) refl refl
+    low : (n : ℕ) → bus_kind (if ltb n bios_size then Bios else UnusedLow) ≡ OnFast
+    low n = either (λ (r : Region). bus_kind r ≡ OnFast) (nat_lt n bios_size) refl refl
 
 -- from page 16 on nothing is
-high_bus : (p a : ℕ) → 16 ≤ p → bus_of (region_at p a) ≡ OnFast
+high_bus : (p a : ℕ) → 16 ≤ p → bus_kind (region_at p a) ≡ OnFast
 high_bus p a h =
     choose P (nat_lt p 0x08) (λ e. absurd (omega (arith, tests)))
     λ e₁. choose P (nat_lt p 0x0A) (λ e. absurd (omega (arith, tests)))
@@ -84,25 +84,25 @@ high_bus p a h =
     λ e₅. refl
   where
     P : Region → Type 0
-    P r = bus_of r ≡ OnFast
+    P r = bus_kind r ≡ OnFast
 
 -- digits that say what is wanted of each page
-digit_bus : (digits : ℕ) (want : Bus → ℕ)
-    → all_below 16 (λ (p : ℕ). nat_eq (digits / 2 ^ (4 * p) % 16) (want (bus_of (region_at p 0)))) ≡ true
-    → digits / 2 ^ (4 * 0) % 16 ≡ want OnFast → (a : ℕ) → page_digit digits a ≡ want (bus_of (decode a))
+digit_bus : (digits : ℕ) (want : BusKind → ℕ)
+    → all_below 16 (λ (p : ℕ). nat_eq (digits / 2 ^ (4 * p) % 16) (want (bus_kind (region_at p 0)))) ≡ true
+    → digits / 2 ^ (4 * 0) % 16 ≡ want OnFast → (a : ℕ) → page_digit digits a ≡ want (bus_kind (decode a))
 unfolding page_digit decode
 digit_bus digits want all fast a =
-    choose (λ (d : ℕ). d ≡ want (bus_of (region_at (page a) a))) (nat_lt (page a) 16)
+    choose (λ (d : ℕ). d ≡ want (bus_kind (region_at (page a) a))) (nat_lt (page a) 16)
     (λ e. eqb-true _ _ (below 16 says all (page a) (ltb-true (page a) 16 e)) ∙ ap want (page_bus (page a) 0 a))
     (λ e. fast ∙ ap want (sym (high_bus (page a) a (ltb-false (page a) 16 e))))
   where
     says : ℕ → Bool
-    says p = digits / 2 ^ (4 * p) % 16 == want (bus_of (region_at p 0))
+    says p = digits / 2 ^ (4 * p) % 16 == want (bus_kind (region_at p 0))
 
-pub first_digit : (a : ℕ) → page_digit first_beats a ≡ first_byte (bus_of (decode a))
+pub first_digit : (a : ℕ) → page_digit first_beats a ≡ first_byte (bus_kind (decode a))
 first_digit = digit_bus first_beats first_byte refl refl
 
-pub second_digit : (a : ℕ) → page_digit second_beats a ≡ second_byte (bus_of (decode a))
+pub second_digit : (a : ℕ) → page_digit second_beats a ≡ second_byte (bus_kind (decode a))
 second_digit = digit_bus second_beats second_byte refl refl
 
 -- ---- one beat or two, as bytes
@@ -134,7 +134,7 @@ one_byte g Byte = refl
 one_byte g Half = refl
 one_byte g Word = refl
 
-bus_bytes : (z : AccessSize) (g : Ground) (b : Bus)
+bus_bytes : (z : AccessSize) (g : Ground) (b : BusKind)
     → beat_bytes (data_grounds_on z g b)
     ≡ (if nat_eq (first_byte b) 0 then ground_byte g else first_byte b) ∷ of_word z (second_byte b) ∷ zeros
 bus_bytes z g OnEwram = wide_bytes z EwramBus EwramBus
@@ -144,20 +144,20 @@ bus_bytes z g OnSram = one_byte SramBus z
 bus_bytes z g OnFast = one_byte Fast z
 
 pub data_bytes : (z : AccessSize) (a : ℕ) (g : Ground)
-    → beat_bytes (data_grounds_on z g (bus_of (decode a)))
+    → beat_bytes (data_grounds_on z g (bus_kind (decode a)))
     ≡ (if nat_eq (page_digit first_beats a) 0 then ground_byte g else page_digit first_beats a)
     ∷ of_word z (page_digit second_beats a) ∷ zeros
 data_bytes z a g =
-    bus_bytes z g (bus_of (decode a))
+    bus_bytes z g (bus_kind (decode a))
     ∙ ap₂ (λ (n m : ℕ). (if nat_eq n 0 then ground_byte g else n) ∷ of_word z m ∷ zeros) (sym (first_digit a))
     (sym (second_digit a))
 
 -- ---- an opcode's beats, by whether it lies in a window
 
 -- a half's ground goes by whether it hits itself
-pub half_at : (hits : ℕ → Bool) (forced : Bool) (a : ℕ) → half_ground (λ (n : ℕ). hits a) forced a ≡ half_ground hits forced a
+pub half_hit_at : (hits : ℕ → Bool) (forced : Bool) (a : ℕ) → half_ground (λ (n : ℕ). hits a) forced a ≡ half_ground hits forced a
 unfolding half_ground
-half_at hits forced a = refl
+half_hit_at hits forced a = refl
 
 module _ (hits : ℕ → Bool) (forced : Bool) (isa : IsaState) (a : ℕ) where
   pub in_rom : in_window a ≡ true

@@ -7,7 +7,7 @@ use Rattle.model.specs.Base.{byte_at, further, lowered}
 use Rattle.model.specs.Region.{page, decode}
 use Rattle.model.specs.Wait.{size_bytes_of, aligned, in_window, force_nonseq}
 use Rattle.model.specs.Timing.{code_size}
-use Rattle.model.specs.Price.{bus_of}
+use Rattle.model.specs.Price.{bus_kind}
 use Rattle.model.specs.BoardBytes.{answer_length}
 use Rattle.model.specs.Grounds.{fetch_grounds, data_grounds_on, beat_bytes}
 use Rattle.model.specs.declared.Ground.{Ground}
@@ -87,7 +87,7 @@ ground_at next n = if force_nonseq n then ByBlock else if goes_on_at next n then
 
 -- the grounds of an access, and where the next one goes on
 abbrev pub data_from : Option ℕ → AccessSize → ℕ → List Ground
-data_from next z a = data_grounds_on z (ground_at next (aligned z a)) (bus_of (decode a))
+data_from next z a = data_grounds_on z (ground_at next (aligned z a)) (bus_kind (decode a))
 
 abbrev pub data_next : AccessSize → ℕ → ℕ
 data_next z a = further (size_bytes_of z) (aligned z a)

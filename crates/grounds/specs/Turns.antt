@@ -28,7 +28,7 @@ use Rattle.records.specs.Shape.{Shaped}
 use Rattle.grounds.specs.declared.Trail.{Trail}
 use Rattle.grounds.specs.declared.Before.{Before}
 use Rattle.grounds.specs.Trail.{begins, before_step, beats_by, trail_after, Tells}
-use Rattle.grounds.specs.Follows.{Follows, begins_follows, counted, follows}
+use Rattle.grounds.specs.Follows.{Follows, begins_follows, counted_hits, follows}
 
 -- ---- what the loop asks
 
@@ -155,7 +155,7 @@ module _ {c : Clock} {n : ℕ} {sheet answers lent : List ℕ} (x : Explainable 
       let read = step_of (record_at sheet k) in
       let taken = byte_at answers (answer_start k + 8) in
       let right = follows t d (before_step c answers k) taken g.sound g.follows (before_is k h) read
-      (counted d (record_at sheet k) taken (x.shown k h).hits) in
+      (counted_hits d (record_at sheet k) taken (x.shown k h).hits) in
       record {
         written =
             ap₂ (λ (m : ℕ) (l : List ℕ). put_mid (grounds_length * k) m l out) w g.written

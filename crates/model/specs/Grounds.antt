@@ -11,7 +11,7 @@ use Rattle.model.specs.Wait.{sram_byte_cycles, ewram_cycles, video_ram_cycles, f
 use Rattle.model.specs.Prefetch.{hit}
 use Rattle.model.specs.Price.{previous, access_of, kind_after, wide}
 use Rattle.model.specs.declared.Previous.{Previous}
-use Rattle.model.specs.Price.{Bus, OnEwram, OnVideo, OnRom, OnSram, OnFast, bus_of}
+use Rattle.model.specs.Price.{BusKind, OnEwram, OnVideo, OnRom, OnSram, OnFast, bus_kind}
 use Rattle.model.specs.Timing.{internal, code_size}
 use Rattle.model.specs.Step.{clock_after, turns_in}
 use Rattle.model.specs.Sheet.{record_at, record_count, step_of, steps_of}
@@ -119,7 +119,7 @@ unfoldable pub first_ground : Previous → ℕ → Ground
 first_ground p n = if force_nonseq n then ByBlock else kind_ground (kind_after p n)
 
 -- a ROM, EWRAM, palette or VRAM word has two beats, any other access one; in ROM the first beat's ground is `first`
-abbrev pub data_grounds_on : AccessSize → Ground → Bus → List Ground
+abbrev pub data_grounds_on : AccessSize → Ground → BusKind → List Ground
 data_grounds_on z first OnEwram = wide z EwramBus EwramBus
 data_grounds_on z first OnVideo = wide z VideoBus VideoBus
 data_grounds_on z first (OnRom win) = wide z first Sequential
@@ -127,7 +127,7 @@ data_grounds_on z first OnSram = SramBus ∷ []
 data_grounds_on z first OnFast = Fast ∷ []
 
 unfoldable pub data_grounds : Previous → AccessSize → ℕ → List Ground
-data_grounds p z a = data_grounds_on z (first_ground p (aligned z a)) (bus_of (decode a))
+data_grounds p z a = data_grounds_on z (first_ground p (aligned z a)) (bus_kind (decode a))
 
 -- the words of a block, each after the one before it, in order
 abbrev pub block_grounds : Previous → ℕ → ℕ → List Ground
@@ -263,7 +263,7 @@ fetch_condition_in hits forced isa a j g (Some win) =
     (half_condition (hits (further 2 a)) (force_nonseq (further 2 a)) false) j g
 fetch_condition_in hits forced isa a j g None = one_condition (plain_condition a) j g
 
-abbrev pub data_condition_on : AccessSize → (Ground → Bool) → ℕ → Ground → Bus → Bool
+abbrev pub data_condition_on : AccessSize → (Ground → Bool) → ℕ → Ground → BusKind → Bool
 data_condition_on z first j g OnEwram = wide_condition z (same_ground EwramBus) (same_ground EwramBus) j g
 data_condition_on z first j g OnVideo = wide_condition z (same_ground VideoBus) (same_ground VideoBus) j g
 data_condition_on z first j g (OnRom win) = wide_condition z first (same_ground Sequential) j g
@@ -272,10 +272,10 @@ data_condition_on z first j g OnFast = one_condition (same_ground Fast) j g
 
 abbrev pub data_condition : Previous → AccessSize → ℕ → ℕ → Ground → Bool
 data_condition p z a j g =
-    data_condition_on z (first_condition (force_nonseq (aligned z a)) (kind_after p (aligned z a))) j g (bus_of (decode a))
+    data_condition_on z (first_condition (force_nonseq (aligned z a)) (kind_after p (aligned z a))) j g (bus_kind (decode a))
 
 -- how many beats a word has: two on the buses of 16 bits, else one
-abbrev pub word_beats : Bus → ℕ
+abbrev pub word_beats : BusKind → ℕ
 word_beats OnEwram = 2
 word_beats OnVideo = 2
 word_beats (OnRom win) = 2
@@ -286,7 +286,7 @@ word_beats OnFast = 1
 abbrev pub block_condition : Previous → ℕ → ℕ → ℕ → Ground → Bool
 block_condition p a zero j g = false
 block_condition p a (suc n) j g =
-    let beats = word_beats (bus_of (decode a)) in
+    let beats = word_beats (bus_kind (decode a)) in
     let behind = block_condition (access_of Word a) (further 4 a) n (j - beats) g in
     if ltb j beats then data_condition p Word a j g else behind
 

@@ -87,31 +87,31 @@ abbrev pub rom_access : AccessSize → AccessKind → RomWindow → List Beat
 rom_access z k win = wide z (RomBeat win k) (RomBeat win Seq)
 
 -- the bus that an access goes over: EWRAM's, that of palette and VRAM, ROM's through a window, SRAM's, or one without waits
-pub data Bus : Type 0 where
-  OnEwram : Bus
-  OnVideo : Bus
-  OnRom : RomWindow → Bus
-  OnSram : Bus
-  OnFast : Bus
+pub data BusKind : Type 0 where
+  OnEwram : BusKind
+  OnVideo : BusKind
+  OnRom : RomWindow → BusKind
+  OnSram : BusKind
+  OnFast : BusKind
 
 -- by the region of the address
-abbrev pub bus_of : Region → Bus
-bus_of Bios = OnFast
-bus_of UnusedLow = OnFast
-bus_of Ewram = OnEwram
-bus_of Iwram = OnFast
-bus_of Io = OnFast
-bus_of Palette = OnVideo
-bus_of Vram = OnVideo
-bus_of Oam = OnFast
-bus_of GamePakRomWs0 = OnRom Ws0
-bus_of GamePakRomWs1 = OnRom Ws1
-bus_of GamePakRomWs2 = OnRom Ws2
-bus_of GamePakSram = OnSram
-bus_of UnusedHigh = OnFast
+abbrev pub bus_kind : Region → BusKind
+bus_kind Bios = OnFast
+bus_kind UnusedLow = OnFast
+bus_kind Ewram = OnEwram
+bus_kind Iwram = OnFast
+bus_kind Io = OnFast
+bus_kind Palette = OnVideo
+bus_kind Vram = OnVideo
+bus_kind Oam = OnFast
+bus_kind GamePakRomWs0 = OnRom Ws0
+bus_kind GamePakRomWs1 = OnRom Ws1
+bus_kind GamePakRomWs2 = OnRom Ws2
+bus_kind GamePakSram = OnSram
+bus_kind UnusedHigh = OnFast
 
 -- SRAM has so many waits, and in ROM the first beat is of kind `k`
-abbrev pub data_beats_on : ℕ → AccessSize → AccessKind → Bus → List Beat
+abbrev pub data_beats_on : ℕ → AccessSize → AccessKind → BusKind → List Beat
 data_beats_on sram z k OnEwram = wide z (EwramBeat Half) (EwramBeat Half)
 data_beats_on sram z k OnVideo = wide z VideoBeat VideoBeat
 data_beats_on sram z k (OnRom win) = rom_access z k win
@@ -119,7 +119,7 @@ data_beats_on sram z k OnSram = SramBeat sram ∷ []
 data_beats_on sram z k OnFast = FastBeat ∷ []
 
 abbrev pub data_beats_in : ℕ → AccessSize → AccessKind → Region → List Beat
-data_beats_in sram z k r = data_beats_on sram z k (bus_of r)
+data_beats_in sram z k r = data_beats_on sram z k (bus_kind r)
 
 -- under WAITCNT `w`, after the access `p`
 unfoldable pub data_beats : ℕ → Previous → AccessSize → ℕ → List Beat

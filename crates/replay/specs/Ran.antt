@@ -15,8 +15,8 @@ use Rattle.replay.specs.declared.head.Operation.{Operation}
 use Rattle.replay.specs.declared.head.Operation.TheVariants.{Run, RunTariff, Preview, RunGrounds}
 
 -- what a case lends to a run
-abbrev pub lent_by : Lengths → Buffers → Lent
-lent_by l b =
+abbrev pub lent_in_case : Lengths → Buffers → Lent
+lent_in_case l b =
     record {
       sheet = b.sheet.items;
       board = b.board.items;
@@ -34,13 +34,13 @@ uncharged r = record { number = r.number; index = r.index; total = r.total }
 -- from the buffers before it, the bill that is told and the buffers after it
 abbrev pub RanAs : Operation → Head → Buffers → Bill → Buffers → Type 0
 RanAs Run h b r a =
-    reported (uncharged r) a.board.items a.store.items a.answers.items ≡ outcome (lent_by h.memories b)
+    reported (uncharged r) a.board.items a.store.items a.answers.items ≡ outcome (lent_in_case h.memories b)
 RanAs RunTariff h b r a =
     reported_bill r a.board.items a.store.items a.answers.items a.second.items
-    ≡ bill (record { run = lent_by h.memories b; shares = b.second.items; rate = h.asked.rate })
+    ≡ bill (record { run = lent_in_case h.memories b; shares = b.second.items; rate = h.asked.rate })
 RanAs Preview h b r a =
     reported_preview (uncharged r) a.sheet.items a.board.items a.answers.items
     ≡ preview (record { sheet = b.sheet.items; board = b.board.items; answers = b.answers.items })
 RanAs RunGrounds h b r a =
     reported_grounds (uncharged r) a.board.items a.store.items a.answers.items a.second.items
-    ≡ explain (record { run = lent_by h.memories b; grounds = b.second.items })
+    ≡ explain (record { run = lent_in_case h.memories b; grounds = b.second.items })

@@ -55,7 +55,7 @@ impl Buffers {
 
     fn run_plain(&mut self, x: Lengths) -> Bill
         ensures { reported (given.uncharged result) self.new.board.items self.new.store.items self.new.answers.items
-            ≡ outcome (given.lent_by x self.old) }
+            ≡ outcome (given.lent_in_case x self.old) }
     {
         bts::bts_run(
             &self.sheet,
@@ -78,7 +78,7 @@ impl Buffers {
     fn run_tariff(&mut self, x: Lengths, rate: u32) -> Bill
         ensures { reported_bill result self.new.board.items self.new.store.items self.new.answers.items
             self.new.second.items
-            ≡ bill (record { run = given.lent_by x self.old; shares = self.old.second.items; rate = rate }) }
+            ≡ bill (record { run = given.lent_in_case x self.old; shares = self.old.second.items; rate = rate }) }
     {
         bts::bts_run_tariff(
             &self.sheet,
@@ -102,7 +102,7 @@ impl Buffers {
     fn run_grounds(&mut self, x: Lengths) -> Bill
         ensures { reported_grounds (given.uncharged result) self.new.board.items self.new.store.items
             self.new.answers.items self.new.second.items
-            ≡ explain (record { run = given.lent_by x self.old; grounds = self.old.second.items }) }
+            ≡ explain (record { run = given.lent_in_case x self.old; grounds = self.old.second.items }) }
     {
         bts::bts_run_grounds(
             &self.sheet,

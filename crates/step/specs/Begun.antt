@@ -4,7 +4,7 @@ use Rattle.std.specs.Prelude.{◌≡◌, ℕ, List, [], length}
 use Rattle.model.specs.Region.{decode}
 use Rattle.model.specs.Waitcnt.{Waits, rom_waits_of}
 use Rattle.model.specs.declared.Previous.{Previous}
-use Rattle.model.specs.Memory.{lengths_sum}
+use Rattle.model.specs.Memory.{lengths_sum, no_lengths}
 use Rattle.model.specs.Store.{landed}
 use Rattle.model.specs.Step.{Media, State, Timed, timed, Changed, changed, hits_of, stepped, answer, board_with}
 use Rattle.model.specs.Laws.Previous.{SoundPrevious}
@@ -28,10 +28,6 @@ media_from bios rom l = record { bios = bios; rom = rom; lengths = l }
 -- what the loads of a step see
 abbrev pub seen : Media → Contents → List ℕ → Parted
 seen m d store = parted (bus d.cpu_pc d.last_bios_opcode m.bios m.rom store) m.lengths
-
--- for steps that read no memory
-abbrev pub no_lengths : Lengths
-no_lengths = record { ewram = 0; iwram = 0; io = 0; palette = 0; vram = 0; oam = 0; sram = 0 }
 
 abbrev pub state_from : Clock → List ℕ → Contents → List ℕ → State
 state_from clock halves contents store = record { board = board_with clock halves contents; store = store }
@@ -63,8 +59,8 @@ pub record Begins (m : Media) (s : State) (x : Step) (r : Begun) (store : List �
   pub store_is : store ≡ landed s.store (changed m s x).puts
 
 -- a step that no memory enters
-abbrev pub bare : Clock → List ℕ → Contents → Step → Begun
-bare c h d x = begun (media_from [] [] no_lengths) (state_from c h d []) x
+abbrev pub memoryless : Clock → List ℕ → Contents → Step → Begun
+memoryless c h d x = begun (media_from [] [] no_lengths) (state_from c h d []) x
 
 abbrev pub Reads : Clock → Contents → AccessSize → ℕ → Media → List ℕ → Begun → Type 0
 Reads c d z a m store r = r ≡ begun m (state_from c [] d store) (Read z a)

@@ -22,7 +22,8 @@ use Rattle.model.specs.declared.IsaState.{IsaState}
 use Rattle.model.specs.declared.Version.{Version}
 use Rattle.model.specs.declared.IsaState.TheVariants.{Arm, Thumb}
 use Rattle.model.specs.declared.Step.TheVariants.{Fetch, Instruction}
-use Rattle.step.specs.Begun.{media_from, no_lengths, state_from, begun}
+use Rattle.model.specs.Memory.{no_lengths}
+use Rattle.step.specs.Begun.{media_from, state_from, begun}
 use Rattle.step.specs.declared.Begun.{Begun}
 use Rattle.step.specs.declared.CodeFetch.{CodeFetch}
 

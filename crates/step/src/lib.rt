@@ -383,7 +383,7 @@ fn restarted(machine: Machine, waits: [[u8; 2]; 3], addr: u32) -> Clock
 // FETCH: `try_fetch_half`.
 #[tactic(auto, unfolding(prefetch::specs::Found::found, model::specs::Step::half_at))]
 fn fetch_step(machine: Machine, halves: &[u16; 8], addr: u32) -> Begun
-    ensures { result ≡ def.bare machine.clock halves.now machine.contents (kind.Fetch addr) }
+    ensures { result ≡ def.memoryless machine.clock halves.now machine.contents (kind.Fetch addr) }
 {
     let clock = machine.clock;
     let contents = machine.contents;
@@ -475,7 +475,7 @@ fn instruction_step(
     pc_changed: bool,
 ) -> Begun
     requires { waits ≡ rom_waits_of machine.clock.waitcnt }
-    ensures { result ≡ def.bare machine.clock [] machine.contents (kind.Instruction version isa addr opcode pc_changed) }
+    ensures { result ≡ def.memoryless machine.clock [] machine.contents (kind.Instruction version isa addr opcode pc_changed) }
 {
     let clock = machine.clock;
     let contents = machine.contents;

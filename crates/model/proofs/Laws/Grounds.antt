@@ -14,7 +14,7 @@ use Rattle.model.specs.Prefetch.{hit}
 use Rattle.model.specs.Price.{Beat, RomBeat, EwramBeat, VideoBeat, beat_cycles, price}
 use Rattle.model.specs.Price.{previous, access_of, kind_after, wide}
 use Rattle.model.specs.declared.Previous.{Previous}
-use Rattle.model.specs.Price.{Bus, OnEwram, OnVideo, OnRom, OnSram, OnFast, bus_of}
+use Rattle.model.specs.Price.{BusKind, OnEwram, OnVideo, OnRom, OnSram, OnFast, bus_kind}
 use Rattle.model.specs.Price.{data_beats_on, data_beats, data_cycles, block_cycles_of}
 use Rattle.model.specs.Timing.{internal, code_size, half_beat, plain_beat, fetch_beats_in, fetch_beats, price_insn}
 use Rattle.model.specs.Step.{turns_in, timed}
@@ -126,7 +126,7 @@ same_test : (z : AccessSize) (h : Ground) (j : ℕ) (i : Ground)
 same_test z h = wide_test z h h (same_ground h) (same_ground h) (λ i. refl) (λ i. refl)
 
 bus_test : (z : AccessSize) (h : Ground) (t : Ground → Bool) → ((i : Ground) → same_ground h i ≡ t i) → (j : ℕ) (g : Ground)
-    (b : Bus) → is_beat (beat_at (data_grounds_on z h b) j) g ≡ data_condition_on z t j g b
+    (b : BusKind) → is_beat (beat_at (data_grounds_on z h b) j) g ≡ data_condition_on z t j g b
 bus_test z h t e j g OnEwram = same_test z EwramBus j g
 bus_test z h t e j g OnVideo = same_test z VideoBus j g
 bus_test z h t e j g (OnRom win) = wide_test z h Sequential t (same_ground Sequential) e (λ i. refl) j g
@@ -140,7 +140,7 @@ data_test p z a j g =
     let n = aligned z a in
     bus_test z (first_ground p n) (first_condition (force_nonseq n) (kind_after p n))
     (first_test (force_nonseq n) (kind_after p n)) j g
-    (bus_of (decode a))
+    (bus_kind (decode a))
 
 -- a beat of two lists of grounds, one behind the other: of the first, or of the second
 beat_first : (gs hs : List Ground) (j : ℕ) → j < length gs → beat_at (gs ++ hs) j ≡ beat_at gs j
@@ -154,21 +154,21 @@ beat_behind (g ∷ gs) hs zero n h e = absurd (omega arith)
 beat_behind (g ∷ gs) hs (suc j) n h e = beat_behind gs hs j n (omega arith) (omega arith)
 
 -- a word has as many beats as its bus says
-bus_beats : (g : Ground) (b : Bus) → length (data_grounds_on Word g b) ≡ word_beats b
+bus_beats : (g : Ground) (b : BusKind) → length (data_grounds_on Word g b) ≡ word_beats b
 bus_beats g OnEwram = refl
 bus_beats g OnVideo = refl
 bus_beats g (OnRom win) = refl
 bus_beats g OnSram = refl
 bus_beats g OnFast = refl
 
-pub word_beats_law : (p : Previous) (a : ℕ) → length (data_grounds p Word a) ≡ word_beats (bus_of (decode a))
+pub word_beats_law : (p : Previous) (a : ℕ) → length (data_grounds p Word a) ≡ word_beats (bus_kind (decode a))
 unfolding data_grounds
-word_beats_law p a = bus_beats (first_ground p (aligned Word a)) (bus_of (decode a))
+word_beats_law p a = bus_beats (first_ground p (aligned Word a)) (bus_kind (decode a))
 
 block_test : (p : Previous) (a n j : ℕ) (g : Ground) → is_beat (beat_at (block_grounds p a n) j) g ≡ block_condition p a n j g
 block_test p a zero j g = refl
 block_test p a (suc n) j g =
-    let beats = word_beats (bus_of (decode a)) in
+    let beats = word_beats (bus_kind (decode a)) in
     let word = data_grounds p Word a in
     let rest = block_grounds (access_of Word a) (further 4 a) n in
     let many : length word ≡ beats = word_beats_law p a in
@@ -220,7 +220,7 @@ named_exactly c x j g = (
 
 -- ---- a data access: its beats cost what their grounds do
 
-pub bus_window_law : (a : ℕ) → window a ≡ bus_window (bus_of (decode a))
+pub bus_window_law : (a : ℕ) → window a ≡ bus_window (bus_kind (decode a))
 unfolding window decode
 bus_window_law a =
     choose₂ P (ltb p 0x08)
@@ -236,10 +236,10 @@ bus_window_law a =
     p = page a
 
     P : Option RomWindow → Region → Type 0
-    P v r = v ≡ bus_window (bus_of r)
+    P v r = v ≡ bus_window (bus_kind r)
 
     Q : Region → Type 0
-    Q r = None ≡ bus_window (bus_of r)
+    Q r = None ≡ bus_window (bus_kind r)
 
 -- one beat or two, by the size
 wide_worth : (t : Waits) (f : Ground → ℕ) (z : AccessSize) (b c : Beat) (g h : Ground)
@@ -250,7 +250,7 @@ wide_worth t f Word b c g h e d = ap₂ (λ (n m : ℕ). n + (m + 0)) e d
 
 -- over a bus, where the first beat from ROM is of a kind that the ground tells
 bus_worth : (w : ℕ) (z : AccessSize) (k : AccessKind) (g : Ground)
-    → ((win : RomWindow) → rom_half_cycles (rom_waits_of w) win k ≡ ground_cycles w (Some win) Half g) → (b : Bus)
+    → ((win : RomWindow) → rom_half_cycles (rom_waits_of w) win k ≡ ground_cycles w (Some win) Half g) → (b : BusKind)
     → price (rom_waits_of w) (data_beats_on (sram_waits w) z k b)
     ≡ sum (map (ground_cycles w (bus_window b) Half) (data_grounds_on z g b))
 bus_worth w z k g first OnEwram =
@@ -282,8 +282,8 @@ data_worth : (w : ℕ) (p : Previous) (z : AccessSize) (a : ℕ)
 unfolding data_beats data_grounds
 data_worth w p z a =
     let n = aligned z a in
-    bus_worth w z (kind_at n (kind_after p n)) (first_ground p n) (first_worth w p n) (bus_of (decode a))
-    ∙ ap (λ (v : Option RomWindow). sum (map (ground_cycles w v Half) (data_grounds_on z (first_ground p n) (bus_of (decode a)))))
+    bus_worth w z (kind_at n (kind_after p n)) (first_ground p n) (first_worth w p n) (bus_kind (decode a))
+    ∙ ap (λ (v : Option RomWindow). sum (map (ground_cycles w v Half) (data_grounds_on z (first_ground p n) (bus_kind (decode a)))))
     (sym (bus_window_law a))
 
 -- and its words make a block's
@@ -401,7 +401,7 @@ wide_few Byte g h = omega arith
 wide_few Half g h = omega arith
 wide_few Word g h = omega arith
 
-bus_few : (z : AccessSize) (g : Ground) (b : Bus) → Few (data_grounds_on z g b)
+bus_few : (z : AccessSize) (g : Ground) (b : BusKind) → Few (data_grounds_on z g b)
 bus_few z g OnEwram = wide_few z EwramBus EwramBus
 bus_few z g OnVideo = wide_few z VideoBus VideoBus
 bus_few z g (OnRom win) = wide_few z g Sequential
@@ -410,7 +410,7 @@ bus_few z g OnFast = omega arith
 
 data_few : (p : Previous) (z : AccessSize) (a : ℕ) → Few (data_grounds p z a)
 unfolding data_grounds
-data_few p z a = bus_few z (first_ground p (aligned z a)) (bus_of (decode a))
+data_few p z a = bus_few z (first_ground p (aligned z a)) (bus_kind (decode a))
 
 fetch_few_in : (hits : ℕ → Bool) (forced : Bool) (a : ℕ) (isa : IsaState) (v : Option RomWindow)
     → Few (fetch_grounds_in hits forced a isa v)

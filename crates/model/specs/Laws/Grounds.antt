@@ -3,7 +3,7 @@
 -- cycles and the internal cycle make the step's cycles; and an access or a fetch has at most two, so that 32 bytes hold a step's.
 use Rattle.std.specs.Prelude.{Bool, false, ◌&&◌, List, ◌≤◌, length}
 use Rattle.std.specs.Prelude.{Option, Some, None}
-use Rattle.model.specs.Price.{Bus, OnEwram, OnVideo, OnRom, OnSram, OnFast}
+use Rattle.model.specs.Price.{BusKind, OnEwram, OnVideo, OnRom, OnSram, OnFast}
 use Rattle.model.specs.Grounds.{same_ground}
 use Rattle.model.specs.declared.Ground.{Ground}
 use Rattle.model.specs.declared.Ground.TheVariants.{BufferHit, Sequential, ByFlag, ByBlock, ByAddress}
@@ -22,7 +22,7 @@ every_ground t =
     && ((t ByBlock && (t ByAddress && t EwramBus)) && (t SramBus && (t VideoBus && t Fast)))
 
 -- the window of a bus
-abbrev pub bus_window : Bus → Option RomWindow
+abbrev pub bus_window : BusKind → Option RomWindow
 bus_window OnEwram = None
 bus_window OnVideo = None
 bus_window (OnRom win) = Some win
