@@ -194,7 +194,7 @@ fn bill_examined(
     };
     let accepted = lent.examine_tariff(shares, rate)?;
     let report = run_accepted(accepted, board, store, media, answers);
-    let run = tariff::Totalled {
+    let run = tariff::RunCycles {
         answers,
         steps: report.index as usize,
         total: report.total,
@@ -266,7 +266,7 @@ fn explain_examined(
     let clock = board::load_clock(board.as_array().unwrap());
     let report = run_accepted(accepted, board, store, media, answers);
     let steps = report.index as usize;
-    let run = grounds::Finished {
+    let run = grounds::PastRun {
         sheet: accepted,
         steps,
         clock,

@@ -54,8 +54,8 @@ abbrev pub rest_rows : List ℕ → ℕ → List Row
 rest_rows sheet answers = answers_rows (record_count sheet) answers ++ records_rows sheet
 
 -- what was accepted, was by the verdict
-pub accepts : {T : Type 0} {r : Result T Refusal} {v : Verdict} {x : T} → verdict_of r ≡ v → r ≡ Ok x → v ≡ Accepted
-accepts e w = sym e ∙ ap verdict_of w
+pub accepted_by : {T : Type 0} {r : Result T Refusal} {v : Verdict} {x : T} → verdict_of r ≡ v → r ≡ Ok x → v ≡ Accepted
+accepted_by e w = sym e ∙ ap verdict_of w
 
 -- ---- the row of the room
 

@@ -315,7 +315,7 @@ fn tell(out: &mut [u8], trail: Trail, before: Before, step: Step, taken: u8) -> 
 // A run that is over: its sheet, how many of its records were run, the clock that it began with, a sound one, and its answers.
 // Whoever makes one shows that they belong together, so that what tells the grounds asks nothing of the bytes.
 #[derive(Clone, Copy)]
-pub struct Finished<'a> {
+pub struct PastRun<'a> {
     pub sheet: Sheet<'a>,
     pub steps: usize,
     pub clock: Clock,
@@ -325,7 +325,7 @@ pub struct Finished<'a> {
 
 // The grounds of a run's steps.
 #[tactic(auto, using(crate::specs::Turns::same_room, model::proofs::Laws::Limits::short_step))]
-pub fn put_grounds(run: Finished<'_>, grounds: &mut [u8])
+pub fn put_grounds(run: PastRun<'_>, grounds: &mut [u8])
     requires { def.grounds_length * run.steps ≤ length grounds.old }
     ensures { grounds.new
         ≡ def.grounds_bytes (def.grounds_after run.entry.clock (map step_of (records_from run.entry.sheet.bytes.now 0 run.entry.steps)))

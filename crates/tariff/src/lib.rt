@@ -28,7 +28,7 @@ pub fn charge(cycles: u64, rate: u32) -> u64
 // The answers of a run, and what their cycles come to. Whoever makes one shows it, by the run, so that what shares the charge
 // asks nothing of the bytes.
 #[derive(Clone, Copy)]
-pub struct Totalled<'a> {
+pub struct RunCycles<'a> {
     pub answers: &'a [u8],
     pub steps: usize,
     pub total: u64,
@@ -38,7 +38,7 @@ pub struct Totalled<'a> {
 // The shares of a run's steps, from the cycles that stand in their answers. No step is rounded by itself: what is rounded is the
 // charge up to it. From the last step to the first, since the charge of all is known, and the last answers are the ones at hand.
 #[tactic(auto, using(crate::specs::Shares::begin, crate::specs::Shares::finish, crate::specs::Shares::billable))]
-pub fn put_shares(run: Totalled<'_>, rate: u32, shares: &mut [u8])
+pub fn put_shares(run: RunCycles<'_>, rate: u32, shares: &mut [u8])
     requires { (rate ≤ def.max_rate) × (def.share_length * run.steps ≤ length shares.old) }
     ensures { shares.new ≡ def.shares_in shares.old rate (cycles_from run.entry.answers.now 0 run.entry.steps) run.entry.steps }
 {
