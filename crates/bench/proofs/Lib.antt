@@ -3,3 +3,4 @@ pub mod Written
 pub mod SameText
 pub mod Chunks
 pub mod Longer
+pub mod Told

@@ -1,7 +1,7 @@
 -- Of input that is longer than any sheet the beginning says enough: it is refused by its header and its length alone.
-use Rattle.std.specs.Prelude.{◌≡◌, refl, Bool, true, false, not, List, ℕ, ◌+◌, ◌*◌, ◌≤◌, ◌<◌, length, take, leb, eqb, ◌≢◌, Option, Some, None, IfSome}
+use Rattle.std.specs.Prelude.{◌≡◌, refl, Bool, true, false, not, List, ℕ, ◌+◌, ◌*◌, ◌≤◌, ◌<◌, length, take, leb, eqb}
 use Rattle.std.specs.Prelude.{if◌then◌else◌}
-use Rattle.std.proofs.Common.{sym, ap, subst, ◌∙◌, arith, length-take-le, take_all, eqb-true, leb-true, leb-false, le-leb}
+use Rattle.std.proofs.Common.{sym, ap, ◌∙◌, arith, length-take-le, take_all, eqb-true, leb-true, leb-false, le-leb}
 use Rattle.std.proofs.lemmas.List.{get_or-take}
 use Rattle.model.specs.Base.{byte_at}
 use Rattle.model.specs.Sheet.{header_length, record_length, max_records, latest_version, knows, is_marked, version_of, is_shaped, record_count}
@@ -12,13 +12,10 @@ use Rattle.model.specs.declared.Refusal.{Refusal}
 use Rattle.model.specs.declared.Refusal.TheVariants.{BadMark, BadVersion, BadShape, BadLengths}
 use Rattle.model.specs.declared.Refusal.TheVariants.{UnsoundBoard, ShortAnswers, FaultyRecord, BadRate}
 use Rattle.model.proofs.Laws.Choice.{by_test, if_true, parts}
-use Rattle.std.specs.Io.KnownBytes.{Appends}
-use Rattle.bench.specs.declared.Ending.{Ending}
-use Rattle.bench.specs.declared.Ending.TheVariants.{Failure}
 use Rattle.bench.specs.Text.{bench_lends, refusal_text, text_of, bench_text, ending_by, bench_ending}
 
 -- the longest sheet
-abbrev longest : ℕ
+abbrev pub longest : ℕ
 longest = header_length + record_length * max_records
 
 -- what is refused of input whose shape is wrong
@@ -115,15 +112,3 @@ pub ending_read : (n : ℕ) (s : List ℕ) → longest < n → bench_ending (tak
 ending_read n s more =
     by_test (leb n (length s)) (λ t. cut_ending n s more (leb-true n (length s) t))
     (λ f. ap bench_ending (take_all n s (omega (arith, leb-false n (length s) f))))
-
--- what is told of the bytes that were read, into a buffer with room for one more than the longest sheet has, is told of the input
-pub told : (input a b : Option (List ℕ)) (read buffer : List ℕ) (e : Ending) → longest < length buffer
-    → IfSome input (λ (sheet : List ℕ). read ≡ take (length buffer) sheet)
-    → e ≡ bench_ending read → Appends a b (bench_text read)
-    → IfSome input (λ (sheet : List ℕ). e ≢ Failure → (e ≡ bench_ending sheet) × Appends a b (bench_text sheet))
-told None a b read buffer e room q end text = tt
-told (Some sheet) a b read buffer e room q end text =
-    λ h. (
-      end ∙ ap bench_ending q ∙ ending_read (length buffer) sheet room,
-      subst (Appends a b) (ap bench_text q ∙ text_read (length buffer) sheet room) text,
-    )

@@ -1,8 +1,9 @@
 -- What `bench` writes of a sheet, in bytes, from the model alone: a line for each record, with its answer and the grounds of its
 -- price, and the total; or the refusal. And how it ends.
 -- From document 01, "The program `bench`", and document 02, W-206.
-use Rattle.std.specs.Prelude.{List, [], ◌++◌, ℕ, zero, suc, ◌*◌, ◌==◌, replicate, decimal, codes, flat_map}
+use Rattle.std.specs.Prelude.{List, [], ◌++◌, ℕ, zero, suc, ◌*◌, ◌==◌, replicate, decimal, codes, flat_map, Option, ◌≡◌, ⊤}
 use Rattle.std.specs.Prelude.{if◌then◌else◌}
+use Rattle.std.specs.Io.KnownBytes.{Appends, Keeps}
 use Rattle.model.specs.Base.{bit}
 use Rattle.model.specs.Sheet.{max_records}
 use Rattle.model.specs.BoardBytes.{answer_length, board_bytes, fresh_board}
@@ -12,7 +13,7 @@ use Rattle.model.specs.Grounds.{ground_name, grounds_length, Explaining, explain
 use Rattle.model.specs.declared.Answer.{Answer}
 use Rattle.model.specs.declared.Ground.{Ground}
 use Rattle.bench.specs.declared.Ending.{Ending}
-use Rattle.bench.specs.declared.Ending.TheVariants.{Figures, Refusal, Failure}
+use Rattle.bench.specs.declared.Ending.TheVariants.{Figures, Refusal, Unread, Unwritten}
 
 -- ---- what the program lends
 
@@ -86,8 +87,17 @@ ending_by number = if number == 0 then Figures else Refusal
 abbrev pub bench_ending : List ℕ → Ending
 bench_ending sheet = ending_by (explain (bench_lends sheet)).run.number
 
+-- what is known of the output, by how the program ended: whole it is the sheet's text, of input that can't be read nothing is
+-- written, and output that fails may have any part of it
+abbrev pub Tells : List ℕ → Ending → Option (List ℕ) → Option (List ℕ) → Type 0
+Tells sheet Figures before after = (bench_ending sheet ≡ Figures) × Appends before after (bench_text sheet)
+Tells sheet Refusal before after = (bench_ending sheet ≡ Refusal) × Appends before after (bench_text sheet)
+Tells sheet Unread before after = Keeps before after
+Tells sheet Unwritten before after = ⊤
+
 -- its exit status
 abbrev pub status_of : Ending → ℕ
 status_of Figures = 0
 status_of Refusal = 1
-status_of Failure = 2
+status_of Unread = 2
+status_of Unwritten = 2

@@ -5,12 +5,12 @@
 // any writer, since what a terminal or a pipe gets no contract can say.
 #![tactic(auto)]
 
-ghost use Rattle.std.specs.Prelude.{◌≡◌, ◌≢◌, ◌≤◌, ◌*◌, length, take, IfOk, OnOk, IfSome};
+ghost use Rattle.std.specs.Prelude.{◌≡◌, ◌≤◌, ◌*◌, length, take, IfOk, OnOk, IfSome};
 ghost use Rattle.std.specs.Process.{exit_status};
 ghost use Rattle.std.specs.Io.KnownBytes.{Appends};
 ghost use Rattle.model.specs.BoardBytes.{answer_length};
 ghost use Rattle.model.specs.Grounds.{ground_name, grounds_length};
-ghost use Rattle.bench.specs.Text.{spaced, total_text, refusal_text, ending_by, status_of, bench_text, bench_ending};
+ghost use Rattle.bench.specs.Text.{spaced, total_text, refusal_text, ending_by, status_of, bench_text, bench_ending, Tells};
 ghost use Rattle.bench.specs.Lines.{beat_text, beats_text, numbers_read, line_read, lines_read, report_read};
 
 use bts::Report;
@@ -22,12 +22,13 @@ use std::io;
 use std::io::{Read, Write};
 use std::process::ExitCode;
 
-// How a run of the program ends: with figures, with a refusal, or with input or output that fails.
+// How a run of the program ends: with figures, with a refusal, or with input that can't be read or output that can't be written.
 #[derive(Clone, Copy)]
 enum Ending {
     Figures,
     Refusal,
-    Failure,
+    Unread,
+    Unwritten,
 }
 
 impl Ending {
@@ -38,7 +39,8 @@ impl Ending {
         ExitCode::from(match self {
             Ending::Figures => 0,
             Ending::Refusal => 1,
-            Ending::Failure => 2,
+            Ending::Unread => 2,
+            Ending::Unwritten => 2,
         })
     }
 }
@@ -208,19 +210,18 @@ fn read_full<R: Read>(input: &mut R, buffer: &mut [u8]) -> io::Result<usize>
 // The program, over what it reads and what it writes. One byte more than the longest sheet is enough to see that the input is
 // longer than any. Input that can't be read is no sheet, so no line is written of it.
 fn price<E: Eprint, R: Read, W: Write>(rt: &E, input: &mut R, out: &mut W) -> Ending
-    ensures { IfSome (R.remaining input.old) (λ sheet. result ≢ Ending.Failure
-        → (result ≡ bench_ending sheet) × Appends (W.contents out.old) (W.contents out.new) (bench_text sheet)) }
+    ensures { IfSome (R.remaining input.old) (λ sheet. Tells sheet result (W.contents out.old) (W.contents out.new)) }
 {
     let mut bytes = [0u8; HEADER_LENGTH + RECORD_LENGTH * MAX_RECORDS + 1];
     let Ok(n) = read_full(input, &mut bytes) else {
         say(rt, "can't read standard input");
-        return Ending::Failure;
+        return Ending::Unread;
     };
     match run_sheet(rt, out, &bytes[..n]) {
         Ok(ending) => ending,
         Err(_) => {
             say(rt, "can't write standard output");
-            Ending::Failure
+            Ending::Unwritten
         }
     }
 }

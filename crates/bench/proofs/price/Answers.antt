@@ -1,6 +1,6 @@
 -- What was read is the input, or so much of it that the rest makes no difference.
 use Rattle.std.proofs.Common.{arith}
-use Rattle.bench.proofs.Longer.{told}
+use Rattle.bench.proofs.Told.{told}
 use Rattle.bench.proofs.price.Goals as goal
 
 pub returns-in-Ok-run_sheet : goal.returns-in-Ok-run_sheet
