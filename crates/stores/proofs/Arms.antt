@@ -68,13 +68,13 @@ pub is_filled : (p : Part) (i v : ℕ) {t : Bool} {h : ℕ} {before after : List
 is_filled p i v e f s = rw e (counting 1 (same_puts (ap (λ (n : ℕ). put_aligned p i 2 n) f) s))
 
 -- what no memory takes leaves the store as it was
-pub nothing_lands : {s : List ℕ} {r : Stored} → r ≡ nothing_stored → Stores [] 0 s s r
-nothing_lands e =
+pub dropped_stores : {s : List ℕ} {r : Stored} → r ≡ nothing_stored → Stores [] 0 s s r
+dropped_stores e =
     record { bytes = refl; number = ap (λ (x : Stored). x.landed) e; halfwords = ap (λ (x : Stored). x.halfwords) e }
 
 pub not_filled : (p : Part) (i v : ℕ) {t : Bool} {s : List ℕ} {r : Stored} → t ≡ false → r ≡ nothing_stored
     → Filled t p i v s s r
-not_filled p i v e f = rw e (nothing_lands f)
+not_filled p i v e f = rw e (dropped_stores f)
 
 -- ---- the place in VRAM, by its class
 
