@@ -1,6 +1,5 @@
 -- What the printing functions write, by the bytes that a run gave back, is the text that the model makes of the sheet.
 use Rattle.std.specs.Prelude.{◌≡◌, refl, List, [], ◌∷◌, ◌++◌, map, ℕ, zero, suc, ◌+◌, ◌-◌, ◌*◌, ◌==◌, ◌≤◌, ◌<◌, length, take, drop, replicate, codes}
-use Rattle.std.specs.Prelude.{Some}
 use Rattle.std.proofs.Common.{ap, ap₂, ◌∙◌, arith, eqb-true}
 use Rattle.std.proofs.lemmas.List.{get_or-take, get_or-drop}
 use Rattle.model.specs.Base.{bit, byte_at, number, AllBytes}
@@ -10,13 +9,15 @@ use Rattle.model.specs.Outcome.{LentBytes}
 use Rattle.model.specs.Alike.{answer_at, answer_start, ReadBack}
 use Rattle.model.specs.Grounds.{ground_byte, beat_bytes, beat_ground, grounds_length, grounds_start, grounds_at, Explained, explain}
 use Rattle.model.proofs.Laws.Choice.{choose₂}
-use Rattle.bts.specs.Promises as promises
+use Rattle.model.proofs.Laws.Grounds.{byte_back}
+use Rattle.promises.specs.Run.{Accounted}
+use Rattle.promises.specs.Grounds.{ExplainedIndex, SmallExplainedIndex, GroundsGiven}
+use Rattle.promises.proofs.Run.{accounts}
+use Rattle.promises.proofs.Grounds as promises
 use Rattle.bts.specs.Explained.{reported_grounds}
 use Rattle.bts.specs.declared.Report.{Report}
 use Rattle.model.specs.declared.Answer.{Answer}
 use Rattle.model.specs.declared.Ground.{Ground}
-use Rattle.model.specs.declared.Ground.TheVariants.{BufferHit, Sequential, ByFlag, ByBlock, ByAddress}
-use Rattle.model.specs.declared.Ground.TheVariants.{EwramBus, SramBus, VideoBus, Fast}
 use Rattle.bench.specs.Text.{bench_lends, grounds_text, numbers_text, line_text, lines, total_text, text_of, bench_text, ending_by, bench_ending}
 use Rattle.bench.specs.Example.{fresh_zeros}
 use Rattle.bench.specs.Lines.{beat_text, beats_text, numbers_read, line_read, report_read}
@@ -35,18 +36,6 @@ number_in_part (suc n) w s j b h =
 
 -- ---- the words of a record
 
-ground_back : (g : Ground) → beat_ground (ground_byte g) ≡ Some g
-unfolding beat_ground
-ground_back BufferHit = refl
-ground_back Sequential = refl
-ground_back ByFlag = refl
-ground_back ByBlock = refl
-ground_back ByAddress = refl
-ground_back EwramBus = refl
-ground_back SramBus = refl
-ground_back VideoBus = refl
-ground_back Fast = refl
-
 -- no beat has no word
 none_text : (n : ℕ) → beats_text (replicate n 0) ≡ []
 unfolding beat_ground
@@ -55,7 +44,7 @@ none_text (suc n) = none_text n
 
 words_of : (gs : List Ground) (n : ℕ) → beats_text (map ground_byte gs ++ replicate n 0) ≡ grounds_text gs
 words_of [] n = none_text n
-words_of (g ∷ gs) n = ap₂ (λ (a b : List ℕ). a ++ b) (ap beat_text (ground_back g)) (words_of gs n)
+words_of (g ∷ gs) n = ap₂ (λ (a b : List ℕ). a ++ b) (ap beat_text (byte_back g)) (words_of gs n)
 
 -- ---- lines
 
@@ -114,11 +103,12 @@ module _ (sheet : List ℕ) (bytes : AllBytes sheet) (r : Report) (board store a
   each_line : r.number ≡ 0 → (k : ℕ) → k < r.index
       → line_read k (part k answers) (take grounds_length (drop (grounds_start k) grounds))
       ≡ line_text k (answer_at (bench_lends sheet).run k) (grounds_at (bench_lends sheet).run k)
+  unfolding Accounted ExplainedIndex GroundsGiven
   each_line z k h =
       let told = promises.explains (bench_lends sheet) gave call z in
       let count = (promises.grounds_index (bench_lends sheet) gave call).accepted z in
       let there : k < record_count sheet = omega (arith, h, count) in
-      let read = (promises.accounts (bench_lends sheet).run gave.run told.run z).fields (lent_bytes sheet bytes) k there in
+      let read = (accounts (bench_lends sheet).run gave.run told.run z).fields (lent_bytes sheet bytes) k there in
       line_same k answers grounds (answer_at (bench_lends sheet).run k) (grounds_at (bench_lends sheet).run k) read
       (told.bytes k there)
 
@@ -132,6 +122,7 @@ module _ (sheet : List ℕ) (bytes : AllBytes sheet) (r : Report) (board store a
 
   -- there is room for as many records as the report tells of
   pub few : r.index ≤ max_records
+  unfolding SmallExplainedIndex
   few = promises.grounds_few_records (bench_lends sheet) gave call
 
   pub ending_same : ending_by r.number ≡ bench_ending sheet

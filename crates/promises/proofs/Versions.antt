@@ -1,5 +1,4 @@
 -- The laws behind what is promised of the two versions.
-use Rattle.std.specs.Prelude.{◌≡◌}
 use Rattle.std.proofs.Common.{◌∙◌}
 use Rattle.model.specs.Alike.{answer_at}
 use Rattle.model.specs.Outcome.{media_of}
