@@ -3,4 +3,4 @@ pub mod Written
 pub mod SameText
 pub mod Chunks
 pub mod Longer
-pub mod Told
+pub mod Priced

@@ -23,12 +23,12 @@ early : List ℕ → Refusal
 early s =
     if not (is_marked s) then BadMark else if not (knows latest_version (version_of s)) then BadVersion else BadShape
 
-decided : (a b c : Bool) (v : Verdict) → c ≡ true
+by_header : (a b c : Bool) (v : Verdict) → c ≡ true
     → (if a then Refused BadMark else if b then Refused BadVersion else if c then Refused BadShape else v)
     ≡ Refused (if a then BadMark else if b then BadVersion else BadShape)
-decided true b c v h = refl
-decided false true c v h = refl
-decided false false c v h = if_true c _ _ h
+by_header true b c v h = refl
+by_header false true c v h = refl
+by_header false false c v h = if_true c _ _ h
 
 shapeless : (s : List ℕ) → longest < length s → not (is_shaped s) ≡ true
 shapeless s h =
@@ -41,7 +41,7 @@ shapeless s h =
 
 early_verdict : (s : List ℕ) → longest < length s → grounds_verdict (bench_lends s) ≡ Refused (early s)
 unfolding grounds_verdict early
-early_verdict s h = decided _ _ _ _ (shapeless s h)
+early_verdict s h = by_header _ _ _ _ (shapeless s h)
 
 -- what is written of a refusal, and how it ends
 refused_text : (i : Lent) (q : Refusal) → text_of i (outcome_by i (Refused q)) ≡ refusal_text (refusal_number q) (refusal_index q)

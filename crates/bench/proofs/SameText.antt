@@ -42,9 +42,9 @@ unfolding beat_ground
 none_text zero = refl
 none_text (suc n) = none_text n
 
-words_of : (gs : List Ground) (n : ℕ) → beats_text (map ground_byte gs ++ replicate n 0) ≡ grounds_text gs
-words_of [] n = none_text n
-words_of (g ∷ gs) n = ap₂ (λ (a b : List ℕ). a ++ b) (ap beat_text (byte_back g)) (words_of gs n)
+grounds_words : (gs : List Ground) (n : ℕ) → beats_text (map ground_byte gs ++ replicate n 0) ≡ grounds_text gs
+grounds_words [] n = none_text n
+grounds_words (g ∷ gs) n = ap₂ (λ (a b : List ℕ). a ++ b) (ap beat_text (byte_back g)) (grounds_words gs n)
 
 -- ---- lines
 
@@ -74,23 +74,23 @@ line_same : (k : ℕ) (answers grounds : List ℕ) (a : Answer) (gs : List Groun
     → line_read k (part k answers) (take grounds_length (drop (grounds_start k) grounds)) ≡ line_text k a gs
 line_same k answers grounds a gs r b =
     ap₂ (λ (numbers words : List ℕ). numbers ++ words ++ codes "\n") (numbers_same k answers a r)
-    (ap beats_text b ∙ words_of gs (grounds_length - length gs))
+    (ap beats_text b ∙ grounds_words gs (grounds_length - length gs))
 
 -- ---- what the program lends are bytes
 
-zeros : (n i : ℕ) → byte_at (replicate n 0) i < 256
-zeros zero i = omega arith
-zeros (suc n) zero = omega arith
-zeros (suc n) (suc i) = zeros n i
+zero_bytes : (n i : ℕ) → byte_at (replicate n 0) i < 256
+zero_bytes zero i = omega arith
+zero_bytes (suc n) zero = omega arith
+zero_bytes (suc n) (suc i) = zero_bytes n i
 
 lent_bytes : (sheet : List ℕ) → AllBytes sheet → LentBytes (bench_lends sheet).run
 lent_bytes sheet bytes =
     record {
       sheet = bytes;
-      board = rw fresh_zeros (zeros board_length);
-      store = zeros 61444;
-      bios = zeros 0;
-      rom = zeros 0;
+      board = rw fresh_zeros (zero_bytes board_length);
+      store = zero_bytes 61444;
+      bios = zero_bytes 0;
+      rom = zero_bytes 0;
     }
 
 -- ---- a call of the run

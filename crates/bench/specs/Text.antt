@@ -87,13 +87,13 @@ ending_by number = if number == 0 then Figures else Refusal
 abbrev pub bench_ending : List ℕ → Ending
 bench_ending sheet = ending_by (explain (bench_lends sheet)).run.number
 
--- what is known of the output, by how the program ended: whole it is the sheet's text, of input that can't be read nothing is
--- written, and output that fails may have any part of it
-abbrev pub Tells : List ℕ → Ending → Option (List ℕ) → Option (List ℕ) → Type 0
-Tells sheet Figures before after = (bench_ending sheet ≡ Figures) × Appends before after (bench_text sheet)
-Tells sheet Refusal before after = (bench_ending sheet ≡ Refusal) × Appends before after (bench_text sheet)
-Tells sheet Unread before after = Keeps before after
-Tells sheet Unwritten before after = ⊤
+-- what is known of the output, by how the program ended. With figures or a refusal it has got the sheet's text; with input that
+-- can't be read, nothing; of what stands there where a write failed, std says nothing
+abbrev pub Wrote : List ℕ → Ending → Option (List ℕ) → Option (List ℕ) → Type 0
+Wrote sheet Figures before after = (bench_ending sheet ≡ Figures) × Appends before after (bench_text sheet)
+Wrote sheet Refusal before after = (bench_ending sheet ≡ Refusal) × Appends before after (bench_text sheet)
+Wrote sheet Unread before after = Keeps before after
+Wrote sheet Unwritten before after = ⊤
 
 -- its exit status
 abbrev pub status_of : Ending → ℕ

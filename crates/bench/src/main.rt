@@ -10,7 +10,7 @@ ghost use Rattle.std.specs.Process.{exit_status};
 ghost use Rattle.std.specs.Io.KnownBytes.{Appends};
 ghost use Rattle.model.specs.BoardBytes.{answer_length};
 ghost use Rattle.model.specs.Grounds.{ground_name, grounds_length};
-ghost use Rattle.bench.specs.Text.{spaced, total_text, refusal_text, ending_by, status_of, bench_text, bench_ending, Tells};
+ghost use Rattle.bench.specs.Text.{spaced, total_text, refusal_text, ending_by, status_of, bench_text, bench_ending, Wrote};
 ghost use Rattle.bench.specs.Lines.{beat_text, beats_text, numbers_read, line_read, lines_read, report_read};
 
 use bts::Report;
@@ -210,7 +210,7 @@ fn read_full<R: Read>(input: &mut R, buffer: &mut [u8]) -> io::Result<usize>
 // The program, over what it reads and what it writes. One byte more than the longest sheet is enough to see that the input is
 // longer than any. Input that can't be read is no sheet, so no line is written of it.
 fn price<E: Eprint, R: Read, W: Write>(rt: &E, input: &mut R, out: &mut W) -> Ending
-    ensures { IfSome (R.remaining input.old) (λ sheet. Tells sheet result (W.contents out.old) (W.contents out.new)) }
+    ensures { IfSome (R.remaining input.old) (λ sheet. Wrote sheet result (W.contents out.old) (W.contents out.new)) }
 {
     let mut bytes = [0u8; HEADER_LENGTH + RECORD_LENGTH * MAX_RECORDS + 1];
     let Ok(n) = read_full(input, &mut bytes) else {
