@@ -1,9 +1,12 @@
 -- The laws behind what is promised of a run: those of `outcome`, of any call of which the contract says that it is one.
-use Rattle.std.specs.Prelude.{◌≢◌, List, ℕ, ◌+◌, ◌*◌, ◌≤◌, ◌<◌}
-use Rattle.std.proofs.Common.{◌∙◌, sym, ap, arith, add_assoc}
-use Rattle.model.specs.Sheet.{record_at, record_count}
-use Rattle.model.specs.Alike.{AlikeSheets, Demand3}
+use Rattle.std.specs.Prelude.{◌≡◌, ◌≢◌, refl, ◌||◌, List, map, ℕ, zero, suc, ◌+◌, ◌*◌, ◌≤◌, ◌<◌, eqb}
+use Rattle.std.proofs.Common.{◌∙◌, sym, ap, ap₂, arith, add_assoc}
+use Rattle.model.specs.Base.{sum, bit}
+use Rattle.model.specs.Sheet.{record_at, record_count, records_from, records_of, is_block}
+use Rattle.model.specs.Alike.{AlikeSheets, accesses_of, Limits, Demand3}
 use Rattle.model.specs.Outcome.{Outcome}
+use Rattle.model.specs.declared.SheetRecord.{SheetRecord}
+use Rattle.model.proofs.Laws.Choice.{by_test}
 use Rattle.model.proofs.Laws.Refusal as refusal
 use Rattle.model.proofs.Laws.Fits.{board_sound, total_fits}
 use Rattle.model.proofs.Laws.Demand3 as demand
@@ -12,6 +15,7 @@ use Rattle.model.proofs.Laws.Told.{told, told_alike}
 use Rattle.examine.specs.Verdicts.{few_index}
 use Rattle.promises.specs.Run.{EachNumber, NoOtherNumber, AcceptedExactly, IndexTold, FirstOfTwo, SmallIndex, RefusedUntouched}
 use Rattle.promises.specs.Run.{SoundLeft, SmallTotal, Accounted, SheetsAlike, SameFigures, WholeDemand3, LandedTold, LandedAlike}
+use Rattle.promises.specs.Run.{added, instruction_count, access_count, idle_count, TotalWithin}
 
 pub table : EachNumber
 unfolding EachNumber
@@ -88,6 +92,30 @@ same_figures i j o p e f ok ok' s b =
       force = λ k l. compared k 10 l (omega arith) (omega arith) (omega arith);
       total = d.totals;
     }
+
+-- what is counted of the records is counted of their bytes
+added_up : (f : ℕ → ℕ → ℕ) (g : SheetRecord → ℕ) → ((r : SheetRecord) → g r ≡ f r.kind r.value) → (s : List ℕ) (k n : ℕ)
+    → sum (map g (records_from s k n)) ≡ added f s k n
+unfolding records_from record_at
+added_up f g same s k zero = refl
+added_up f g same s k (suc n) = ap₂ (λ (x y : ℕ). x + y) (same (record_at s k)) (added_up f g same s (k + 1) n)
+
+pub total_within : TotalWithin
+unfolding TotalWithin
+total_within i o call ok =
+    let s = i.sheet in
+    let limits : Limits (records_of s) o.total = (demand.accounts i o call ok).limits in
+    let instructions = added_up instruction_count _ one_or_none s 0 (record_count s) in
+    let all = added_up access_count accesses_of one_or_words s 0 (record_count s) in
+    let idles = added_up idle_count _ (λ r. refl) s 0 (record_count s) in
+    record { least = omega (arith, limits.least, instructions, all, idles); most = omega (arith, limits.most, instructions, all, idles) }
+  where
+    one_or_none : (r : SheetRecord) → bit (eqb r.kind 7) ≡ instruction_count r.kind r.value
+    one_or_none r = by_test (eqb r.kind 7) (λ e. rw e) (λ e. rw e)
+
+    one_or_words : (r : SheetRecord) → accesses_of r ≡ access_count r.kind r.value
+    one_or_words r =
+        by_test (is_block r.kind) (λ e. rw e) (λ e. rw e (by_test (eqb r.kind 1 || eqb r.kind 2) (λ d. rw d) (λ d. rw d)))
 
 pub same_times : WholeDemand3
 unfolding WholeDemand3

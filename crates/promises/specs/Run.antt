@@ -1,6 +1,7 @@
 -- What is promised of a run. The contract of `bts_run` says of a call that was lent `i` and left `o` that `o ≡ outcome i`; each
 -- statement here is of any such call.
-use Rattle.std.specs.Prelude.{◌≡◌, ◌≢◌, true, List, ℕ, ◌+◌, ◌*◌, ◌≤◌, ◌<◌}
+use Rattle.std.specs.Prelude.{◌≡◌, ◌≢◌, true, ◌||◌, List, ℕ, zero, suc, ◌+◌, ◌*◌, ◌≤◌, ◌<◌, eqb}
+use Rattle.std.specs.Prelude.{if◌then◌else◌}
 use Rattle.model.specs.Base.{Exactly, byte_at, number}
 use Rattle.model.specs.Sheet.{max_records, record_at, record_count, step_of}
 use Rattle.model.specs.BoardBytes.{sound}
@@ -87,6 +88,33 @@ SameFigures =
 -- an accepted run by itself: each answer as the definitions have it, the total as the sum of their cycles, and the limits
 unfoldable pub Accounted : Type 0
 Accounted = (i : Lent) (o : Outcome) → o ≡ outcome i → o.number ≡ 0 → Accounts i o
+
+-- what the records of a sheet come to, from number k on: `f` of the kind and the value of each of n
+abbrev pub added : (ℕ → ℕ → ℕ) → List ℕ → ℕ → ℕ → ℕ
+added f s k zero = 0
+added f s k (suc n) = f (byte_at s (8 + 12 * k)) (number 4 s (8 + 12 * k + 8)) + added f s (k + 1) n
+
+-- I: an INSTRUCTION (7) is one
+abbrev pub instruction_count : ℕ → ℕ → ℕ
+instruction_count kind value = if eqb kind 7 then 1 else 0
+
+-- A: a READ (1) and a WRITE (2) are one, and a BLOCK READ (10) and a BLOCK WRITE (11) as many as their value says
+abbrev pub access_count : ℕ → ℕ → ℕ
+access_count kind value = if eqb kind 10 || eqb kind 11 then value else if eqb kind 1 || eqb kind 2 then 1 else 0
+
+-- D: an IDLE (4) is its value
+abbrev pub idle_count : ℕ → ℕ → ℕ
+idle_count kind value = if eqb kind 4 then value else 0
+
+-- I + A + D ≤ total ≤ 19 I + 18 A + D
+pub record WithinLimits (s : List ℕ) (total : ℕ) : Type 0 where
+  pub least : added instruction_count s 0 (record_count s) + added access_count s 0 (record_count s) + added idle_count s 0 (record_count s) ≤ total
+  pub most : total
+      ≤ 19 * added instruction_count s 0 (record_count s) + 18 * added access_count s 0 (record_count s) + added idle_count s 0 (record_count s)
+
+-- the limits of an accepted run's total, in bytes and numbers alone
+unfoldable pub TotalWithin : Type 0
+TotalWithin = (i : Lent) (o : Outcome) → o ≡ outcome i → o.number ≡ 0 → WithinLimits i.sheet o.total
 
 -- the whole of demand 3, in the model's words: this of every byte that is compared, and what each run has by itself
 unfoldable pub WholeDemand3 : Type 0

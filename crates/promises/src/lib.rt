@@ -84,6 +84,12 @@ pub fn accounts()
     ensures { run.Accounted }
 {}
 
+// The limits of an accepted run's total, in bytes and numbers alone.
+#[tactic(auto, using(crate::proofs::Run::total_within))]
+pub fn total_within()
+    ensures { run.TotalWithin }
+{}
+
 // The whole of demand 3, in the model's words: this of every byte that is compared, and what each run has by itself.
 #[tactic(auto, using(crate::proofs::Run::same_times))]
 pub fn same_times()
