@@ -140,8 +140,8 @@ fn examine_rest(sheet: Sheet<'_>, answers: usize) -> Result<(), Refusal>
     examine_records(sheet)
 }
 
-// All that a caller lends to a run, as it is examined: nothing of it is written. The sheet has a lifetime of its own, since what is
-// accepted goes on as a `Sheet` while the rest is written.
+// All that a caller lends to a run, as it is examined: nothing of it is written. The sheet has a lifetime of its own, since what
+// is accepted goes on as a `Sheet` while the rest is written.
 #[derive(Clone, Copy)]
 pub struct Lent<'s, 'a> {
     pub sheet: &'s [u8],

@@ -1,4 +1,4 @@
--- The loop over the records: what it asks, that a turn tells the grounds of one more, and that the trail follows the clock.
+-- The loop over the records: what it rests on, that a turn tells the grounds of one more, and that the trail follows the clock.
 use Rattle.std.specs.Prelude.{◌≡◌, ℕ, zero, suc, ◌+◌, ◌-◌, ◌*◌, ◌<◌, ◌≤◌, Bool, true, false, ◌≢◌, List, ◌++◌, map, length, drop, ◌==◌, nat_eq, refl}
 use Rattle.std.proofs.Common.{sym, ◌∙◌, length-append, length-drop}
 use Rattle.std.proofs.Math.Path.{ap, ap₂}
@@ -30,7 +30,7 @@ use Rattle.grounds.specs.declared.Before.{Before}
 use Rattle.grounds.specs.Trail.{begins, before_step, beats_by, trail_after, Tells}
 use Rattle.grounds.specs.Follows.{Follows, begins_follows, counted_hits, follows}
 
--- ---- what the loop asks
+-- ---- what the loop rests on: `OfOneRun` is in the type of a past run, and `Explainable` is what it comes to with room
 
 -- the steps of the first k records
 abbrev pub steps_to : List ℕ → ℕ → List Step

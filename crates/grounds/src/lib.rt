@@ -328,7 +328,8 @@ pub struct PastRun<'a> {
 pub fn put_grounds(run: PastRun<'_>, grounds: &mut [u8])
     requires { def.grounds_length * run.steps ≤ length grounds.old }
     ensures { grounds.new
-        ≡ def.grounds_bytes (def.grounds_after run.entry.clock (map step_of (records_from run.entry.sheet.bytes.now 0 run.entry.steps)))
+        ≡ def.grounds_bytes (def.grounds_after run.entry.clock
+        (map step_of (records_from run.entry.sheet.bytes.now 0 run.entry.steps)))
         ++ drop (def.grounds_length * run.entry.steps) grounds.old }
 {
     let mut trail = begun(run.clock);

@@ -28,10 +28,10 @@ pub only_the_previous : ByPreviousAlone
 unfolding ByPreviousAlone
 only_the_previous = law.only_the_previous
 
-pub previous_after_law : PreviousAfter
+pub previous_by_kind : PreviousAfter
 unfolding PreviousAfter
-previous_after_law = law.previous_after_law
+previous_by_kind = law.previous_after_law
 
-pub data_between : AccessLimits
+pub access_limits : AccessLimits
 unfolding AccessLimits
-data_between = bounds.data_between
+access_limits = bounds.data_between

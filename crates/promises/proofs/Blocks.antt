@@ -1,10 +1,15 @@
 -- The laws behind what is promised of blocks.
+use Rattle.model.proofs.Laws.Versions.{two_block}
 use Rattle.model.proofs.Laws.Told as told
 use Rattle.model.proofs.Laws.Blocks as blocks
 use Rattle.model.proofs.Laws.WrittenCalls as calls
 use Rattle.model.proofs.Laws.WrittenSheet as sheet
 use Rattle.promises.specs.Blocks.{BlockLandedTold, SameBlockTold, BlocksAreWords, SameAsWords, WrittenSheetRuns}
-use Rattle.promises.specs.Blocks.{GroundsOfWords, DearestBlock}
+use Rattle.promises.specs.Blocks.{GroundsOfWords, DearestBlock, BlockRecords}
+
+pub block_records : BlockRecords
+unfolding BlockRecords
+block_records = two_block
 
 pub block_landed_told : BlockLandedTold
 unfolding BlockLandedTold
@@ -18,9 +23,9 @@ pub block_words : BlocksAreWords
 unfolding BlocksAreWords
 block_words i o call ok = calls.of_words i o call ok
 
-pub same_words : SameAsWords
+pub as_words : SameAsWords
 unfolding SameAsWords
-same_words = calls.as_words
+as_words = calls.as_words
 
 pub written_runs : WrittenSheetRuns
 unfolding WrittenSheetRuns

@@ -1,8 +1,9 @@
 -- The laws behind what is promised of a preview.
 use Rattle.model.proofs.Laws.Previewed as previewed
+use Rattle.model.proofs.Laws.Refusal.{faulty_lower}
 use Rattle.examine.specs.Verdicts.{few_index}
 use Rattle.promises.specs.Preview.{PreviewIsRun, PreviewedNumber, NoOtherPreviewed, PreviewedIndex, SmallPreviewedIndex}
-use Rattle.promises.specs.Preview.{PreviewUnwritten, PreviewLimits, SamePreviews}
+use Rattle.promises.specs.Preview.{PreviewUnwritten, PreviewLimits, SamePreviews, PreviewedFirstOfTwo}
 
 pub as_run : PreviewIsRun
 unfolding PreviewIsRun
@@ -19,6 +20,10 @@ preview_refusals q p call = rw call (previewed.six_refusals q)
 pub preview_index : PreviewedIndex
 unfolding PreviewedIndex
 preview_index q p call = rw call (previewed.preview_index q)
+
+pub preview_first_of_two : PreviewedFirstOfTwo
+unfolding PreviewedFirstOfTwo PreviewedIndex
+preview_first_of_two q p call h = faulty_lower q.sheet (preview_index q p call) h
 
 pub preview_few_records : SmallPreviewedIndex
 unfolding SmallPreviewedIndex

@@ -1,10 +1,9 @@
 -- The laws behind what is promised of a run: those of `outcome`, of any call of which the contract says that it is one.
 use Rattle.std.specs.Prelude.{◌≡◌, ◌≢◌, refl, ◌||◌, List, map, ℕ, zero, suc, ◌+◌, ◌*◌, ◌≤◌, ◌<◌, eqb}
-use Rattle.std.proofs.Common.{◌∙◌, sym, ap, ap₂, arith, add_assoc}
+use Rattle.std.proofs.Common.{ap₂, arith, add_assoc}
 use Rattle.model.specs.Base.{sum, bit}
 use Rattle.model.specs.Sheet.{record_at, record_count, records_from, records_of, is_block}
 use Rattle.model.specs.Alike.{AlikeSheets, accesses_of, Limits, Demand3}
-use Rattle.model.specs.Outcome.{Outcome}
 use Rattle.model.specs.declared.SheetRecord.{SheetRecord}
 use Rattle.model.proofs.Laws.Choice.{by_test}
 use Rattle.model.proofs.Laws.Refusal as refusal
@@ -12,9 +11,11 @@ use Rattle.model.proofs.Laws.Fits.{board_sound, total_fits}
 use Rattle.model.proofs.Laws.Demand3 as demand
 use Rattle.model.proofs.Laws.Demand3.{same_number_at}
 use Rattle.model.proofs.Laws.Told.{told, told_alike}
+use Rattle.model.proofs.Laws.Landed as landed
 use Rattle.examine.specs.Verdicts.{few_index}
 use Rattle.promises.specs.Run.{EachNumber, NoOtherNumber, AcceptedExactly, IndexTold, FirstOfTwo, SmallIndex, RefusedUntouched}
 use Rattle.promises.specs.Run.{SoundLeft, SmallTotal, Accounted, SheetsAlike, SameFigures, WholeDemand3, LandedTold, LandedAlike}
+use Rattle.promises.specs.Run.{SamePlaces, ExpandedByte}
 use Rattle.promises.specs.Run.{added, instruction_count, access_count, idle_count, TotalWithin}
 
 pub table : EachNumber
@@ -34,8 +35,8 @@ unfolding IndexTold
 index i o call = rw call (refusal.index i)
 
 pub first_of_two : FirstOfTwo
-unfolding FirstOfTwo
-first_of_two i o call h = rw call (refusal.faulty_lower i (sym (ap (λ (x : Outcome). x.number) call) ∙ h))
+unfolding FirstOfTwo IndexTold
+first_of_two i o call h = refusal.faulty_lower i.sheet (index i o call) h
 
 pub few_records : SmallIndex
 unfolding SmallIndex
@@ -108,7 +109,10 @@ total_within i o call ok =
     let instructions = added_up instruction_count _ one_or_none s 0 (record_count s) in
     let all = added_up access_count accesses_of one_or_words s 0 (record_count s) in
     let idles = added_up idle_count _ (λ r. refl) s 0 (record_count s) in
-    record { least = omega (arith, limits.least, instructions, all, idles); most = omega (arith, limits.most, instructions, all, idles) }
+    record {
+      least = omega (arith, limits.least, instructions, all, idles);
+      most = omega (arith, limits.most, instructions, all, idles);
+    }
   where
     one_or_none : (r : SheetRecord) → bit (eqb r.kind 7) ≡ instruction_count r.kind r.value
     one_or_none r = by_test (eqb r.kind 7) (λ e. rw e) (λ e. rw e)
@@ -128,3 +132,11 @@ landed_told i o call ok k h z a v e = told i o call ok k h z a v e
 pub landed_alike : LandedAlike
 unfolding LandedAlike
 landed_alike = told_alike
+
+pub same_places : SamePlaces
+unfolding SamePlaces
+same_places = landed.same_places
+
+pub expanded_byte : ExpandedByte
+unfolding ExpandedByte
+expanded_byte = landed.expanded_byte

@@ -1,10 +1,11 @@
 -- What is promised of blocks (W-207): what a BLOCK WRITE's byte 8 tells, and that a block is its words.
 use Rattle.std.specs.Prelude.{◌≡◌, true, List, ℕ, ◌≤◌, ◌<◌}
 use Rattle.model.specs.Base.{AllBytes}
-use Rattle.model.specs.Sheet.{record_at, record_count, records_of, is_block, step_of}
+use Rattle.model.specs.Sheet.{version_of, record_at, record_count, records_of, is_block, step_of}
 use Rattle.model.specs.Step.{timed}
 use Rattle.model.specs.Outcome.{Lent, Outcome, outcome}
 use Rattle.model.specs.Grounds.{Explaining, Explained, explain}
+use Rattle.model.specs.Laws.Versions.{BlockRecord}
 use Rattle.model.specs.Laws.Told.{BlockTold, SameBlock}
 use Rattle.model.specs.Laws.WrittenOut.{written_out}
 use Rattle.model.specs.Laws.WrittenCalls.{OfWords, ToldByWords, SameLoan, AsWords}
@@ -12,6 +13,11 @@ use Rattle.model.specs.Laws.WrittenSheet.{HasRoom, WrittenRuns}
 use Rattle.model.specs.declared.Clock.{Clock}
 use Rattle.model.specs.declared.SheetRecord.{SheetRecord}
 use Rattle.model.specs.declared.Step.TheVariants.{BlockWrite}
+
+-- in a version 2 sheet a record of kind 10 or 11 is without fault exactly when its size is 4, flag and zero byte are 0 and its
+-- value is 1 to 16; it then stands for as many words, from its address lowered to a multiple of 4 on
+unfoldable pub BlockRecords : Type 0
+BlockRecords = (s : List ℕ) (k : ℕ) → version_of s ≡ 2 → is_block (record_at s k).kind ≡ true → BlockRecord (record_at s k)
 
 -- byte 8 of a BLOCK WRITE's answer is the number of memory bytes that its words' stores wrote: each at a place of its own, where
 -- there is 0 afterwards, and no other byte changes

@@ -1,12 +1,14 @@
--- What is promised of a run with the grounds of its prices (W-206). The contract of `bts_run_grounds` says of a call that was lent
--- `e` and left `x` that `x ≡ explain e`; each statement here is of any such call.
+-- What is promised of a run with the grounds of its prices (W-206). The contract of `bts_run_grounds` says of a call that was
+-- lent `e` and left `x` that `x ≡ explain e`; each statement here is of any such call.
 use Rattle.std.specs.Prelude.{◌≡◌, ◌≢◌, ◌≤◌}
 use Rattle.model.specs.Base.{Exactly}
 use Rattle.model.specs.Sheet.{max_records}
 use Rattle.model.specs.Outcome.{outcome}
 use Rattle.model.specs.Alike.{AlikeSheets, AlikeBoards}
-use Rattle.model.specs.Grounds.{Explaining, Explained, explain, Explains, SameGrounds}
-use Rattle.model.specs.Laws.Refusal.{Index}
+use Rattle.std.specs.Prelude.{Some}
+use Rattle.model.specs.Grounds.{ground_byte, beat_ground, Explaining, Explained, explain, Explains, SameGrounds}
+use Rattle.model.specs.declared.Ground.{Ground}
+use Rattle.model.specs.Laws.Refusal.{Index, LowerOfTwo}
 use Rattle.model.specs.Laws.Explained.{GroundsTable, GroundsAcceptable, GroundsRoom, Untold}
 
 -- each number exactly when its row of the table holds and no earlier one does, and 0 exactly when none does
@@ -21,11 +23,15 @@ NoOtherExplained = (e : Explaining) (x : Explained) → x ≡ explain e → x.ru
 unfoldable pub ExplainAccepted : Type 0
 ExplainAccepted = (e : Explaining) (x : Explained) → x ≡ explain e → Exactly (x.run.number ≡ 0) (GroundsAcceptable e)
 
--- the index
+-- the index: 0 for 1 to 6, the first faulty record for 7, the number of records for 0
 unfoldable pub ExplainedIndex : Type 0
 ExplainedIndex = (e : Explaining) (x : Explained) → x ≡ explain e → Index e.run.sheet x.run.number x.run.index
 
--- it fits its 32 bits
+-- W-203: the record that 7 names, as a run's
+unfoldable pub ExplainedFirstOfTwo : Type 0
+ExplainedFirstOfTwo = (e : Explaining) (x : Explained) → x ≡ explain e → x.run.number ≡ 7 → LowerOfTwo e.run.sheet x.run.index
+
+-- the index fits its 32 bits
 unfoldable pub SmallExplainedIndex : Type 0
 SmallExplainedIndex = (e : Explaining) (x : Explained) → x ≡ explain e → x.run.index ≤ max_records
 
@@ -42,7 +48,12 @@ ExplainedRun = (e : Explaining) (x : Explained) → x ≡ explain e → GroundsR
 unfoldable pub GroundsGiven : Type 0
 GroundsGiven = (e : Explaining) (x : Explained) → x ≡ explain e → x.run.number ≡ 0 → Explains e x
 
--- any two accepted runs with alike sheets and boards, whatever memories they are lent: the same grounds, and all that demand 3 says
+-- a byte says which ground it is: no two grounds have one byte
+unfoldable pub GroundBytes : Type 0
+GroundBytes = (g h : Ground) → (beat_ground (ground_byte g) ≡ Some g) × (ground_byte g ≡ ground_byte h → g ≡ h)
+
+-- any two accepted runs with alike sheets and boards, whatever memories they are lent: the same grounds, and all that demand 3
+-- says
 unfoldable pub SameReasons : Type 0
 SameReasons =
     (e f : Explaining) (x y : Explained) → x ≡ explain e → y ≡ explain f → x.run.number ≡ 0 → y.run.number ≡ 0

@@ -4,7 +4,7 @@ use Rattle.std.specs.Prelude.{◌≡◌, ◌≢◌, ◌≤◌}
 use Rattle.model.specs.Sheet.{max_records, records_of}
 use Rattle.model.specs.Alike.{AlikeSheets, AlikeBoards, Limits}
 use Rattle.model.specs.Preview.{Asked, Previewed, preview, AsRun}
-use Rattle.model.specs.Laws.Refusal.{Index}
+use Rattle.model.specs.Laws.Refusal.{Index, LowerOfTwo}
 use Rattle.model.specs.Laws.Previewed.{PreviewTable, Unwritten, SamePreview}
 
 -- for all memories that the run accepts it is the run on a copy of the board, but for the named zeros, and it is accepted exactly
@@ -20,11 +20,15 @@ PreviewedNumber = (q : Asked) (p : Previewed) → p ≡ preview q → PreviewTab
 unfoldable pub NoOtherPreviewed : Type 0
 NoOtherPreviewed = (q : Asked) (p : Previewed) → p ≡ preview q → (p.number ≤ 7) × (p.number ≢ 4)
 
--- the index
+-- the index: 0 for the others, the first faulty record for 7, the number of records for 0
 unfoldable pub PreviewedIndex : Type 0
 PreviewedIndex = (q : Asked) (p : Previewed) → p ≡ preview q → Index q.sheet p.number p.index
 
--- it fits its 32 bits
+-- W-203: the record that 7 names, as a run's
+unfoldable pub PreviewedFirstOfTwo : Type 0
+PreviewedFirstOfTwo = (q : Asked) (p : Previewed) → p ≡ preview q → p.number ≡ 7 → LowerOfTwo q.sheet p.index
+
+-- the index fits its 32 bits
 unfoldable pub SmallPreviewedIndex : Type 0
 SmallPreviewedIndex = (q : Asked) (p : Previewed) → p ≡ preview q → p.index ≤ max_records
 

@@ -1,16 +1,23 @@
 -- What is promised of a run. The contract of `bts_run` says of a call that was lent `i` and left `o` that `o ≡ outcome i`; each
 -- statement here is of any such call.
-use Rattle.std.specs.Prelude.{◌≡◌, ◌≢◌, true, ◌||◌, List, ℕ, zero, suc, ◌+◌, ◌*◌, ◌≤◌, ◌<◌, eqb}
+use Rattle.std.specs.Prelude.{◌≡◌, ◌≢◌, true, ◌||◌, List, ℕ, zero, suc, ◌+◌, ◌*◌, ◌≤◌, ◌<◌, length, eqb, ltb}
 use Rattle.std.specs.Prelude.{if◌then◌else◌}
-use Rattle.model.specs.Base.{Exactly, byte_at, number}
+use Rattle.model.specs.Base.{Exactly, bit, lowered, byte_at, number}
 use Rattle.model.specs.Sheet.{max_records, record_at, record_count, step_of}
 use Rattle.model.specs.BoardBytes.{sound}
 use Rattle.model.specs.Outcome.{Lent, LentBytes, Outcome, outcome}
 use Rattle.model.specs.Alike.{AlikeSheets, AlikeBoards, state_at, Accounts, Demand3}
 use Rattle.model.specs.Laws.Refusal.{Table, Index, LowerOfTwo, Acceptable, Untouched}
-use Rattle.model.specs.Store.{mode_of}
+use Rattle.model.specs.Video.{fills}
+use Rattle.model.specs.Store.{mode_of, puts_at, puts}
+use Rattle.model.specs.Laws.Landed.{places_of}
 use Rattle.model.specs.Laws.Told.{hits_byte, Told}
 use Rattle.model.specs.declared.AccessSize.{AccessSize}
+use Rattle.model.specs.declared.AccessSize.TheVariants.{Byte}
+use Rattle.model.specs.declared.Lengths.{Lengths}
+use Rattle.model.specs.declared.Part.{Part}
+use Rattle.model.specs.declared.VideoMemory.{VideoMemory}
+use Rattle.model.specs.declared.Target.TheVariants.{Video}
 use Rattle.model.specs.declared.Step.TheVariants.{Write}
 
 -- ---- demand 1
@@ -31,7 +38,8 @@ AcceptedExactly = (i : Lent) (o : Outcome) → o ≡ outcome i → Exactly (o.nu
 unfoldable pub IndexTold : Type 0
 IndexTold = (i : Lent) (o : Outcome) → o ≡ outcome i → Index i.sheet o.number o.index
 
--- W-203: the record that 7 names is the lower of the first with a fault of kind or size and the first with one of the other fields
+-- W-203: the record that 7 names is the lower of two, the first with a fault of kind or size and the first with one of the other
+-- fields
 unfoldable pub FirstOfTwo : Type 0
 FirstOfTwo = (i : Lent) (o : Outcome) → o ≡ outcome i → o.number ≡ 7 → LowerOfTwo i.sheet o.index
 
@@ -43,11 +51,11 @@ SmallIndex = (i : Lent) (o : Outcome) → o ≡ outcome i → o.index ≤ max_re
 unfoldable pub RefusedUntouched : Type 0
 RefusedUntouched = (i : Lent) (o : Outcome) → o ≡ outcome i → o.number ≢ 0 → Untouched i o
 
--- an accepted run leaves a sound board
+-- an accepted run over bytes leaves a sound board
 unfoldable pub SoundLeft : Type 0
 SoundLeft = (i : Lent) (o : Outcome) → o ≡ outcome i → LentBytes i → o.number ≡ 0 → sound o.board ≡ true
 
--- its total is far from 64 bits
+-- its total is at most 4096 · (2^32 - 1), far from 64 bits
 unfoldable pub SmallTotal : Type 0
 SmallTotal = (i : Lent) (o : Outcome) → o ≡ outcome i → LentBytes i → o.number ≡ 0 → o.total ≤ max_records * 0xFFFF_FFFF
 
@@ -68,8 +76,8 @@ pub record SheetsAlike (s t : List ℕ) : Type 0 where
 abbrev pub BoardsAlike : List ℕ → List ℕ → Type 0
 BoardsAlike b c = (i : ℕ) → i < 80 → ¬ ((20 ≤ i) × (i ≤ 35)) → ¬ ((40 ≤ i) × (i ≤ 67)) → byte_at b i ≡ byte_at c i
 
--- the figures that two runs agree in: of each step the cycles, the hits, but of a WRITE (2) and a BLOCK WRITE (11), whose hits are
--- the bytes that land, the prefetch count and the force flag; and the total
+-- the figures that two runs agree in: of each step the cycles, the hits, but of a WRITE (2) and a BLOCK WRITE (11), whose hits
+-- are the bytes that land, the prefetch count and the force flag; and the total
 pub record FiguresAgree (sheet : List ℕ) (o p : Outcome) : Type 0 where
   pub cycles : (k : ℕ) → k < record_count sheet → number 4 o.answers (12 * k + 4) ≡ number 4 p.answers (12 * k + 4)
   pub hits : (k : ℕ) → k < record_count sheet → byte_at sheet (8 + 12 * k) ≢ 2 → byte_at sheet (8 + 12 * k) ≢ 11
@@ -78,8 +86,8 @@ pub record FiguresAgree (sheet : List ℕ) (o p : Outcome) : Type 0 where
   pub force : (k : ℕ) → k < record_count sheet → byte_at o.answers (12 * k + 10) ≡ byte_at p.answers (12 * k + 10)
   pub total : o.total ≡ p.total
 
--- in bytes and numbers alone: any two accepted runs whose sheets and first boards are alike, whatever memories they are lent, agree
--- in these figures
+-- in bytes and numbers alone: any two accepted runs whose sheets and first boards are alike, whatever memories they are lent,
+-- agree in these figures
 unfoldable pub SameFigures : Type 0
 SameFigures =
     (i j : Lent) (o p : Outcome) → o ≡ outcome i → p ≡ outcome j → o.number ≡ 0 → p.number ≡ 0
@@ -93,6 +101,10 @@ Accounted = (i : Lent) (o : Outcome) → o ≡ outcome i → o.number ≡ 0 → 
 abbrev pub added : (ℕ → ℕ → ℕ) → List ℕ → ℕ → ℕ → ℕ
 added f s k zero = 0
 added f s k (suc n) = f (byte_at s (8 + 12 * k)) (number 4 s (8 + 12 * k + 8)) + added f s (k + 1) n
+
+-- of all its records
+abbrev pub in_all : (ℕ → ℕ → ℕ) → List ℕ → ℕ
+in_all f s = added f s 0 (record_count s)
 
 -- I: an INSTRUCTION (7) is one
 abbrev pub instruction_count : ℕ → ℕ → ℕ
@@ -108,9 +120,8 @@ idle_count kind value = if eqb kind 4 then value else 0
 
 -- I + A + D ≤ total ≤ 19 I + 18 A + D
 pub record WithinLimits (s : List ℕ) (total : ℕ) : Type 0 where
-  pub least : added instruction_count s 0 (record_count s) + added access_count s 0 (record_count s) + added idle_count s 0 (record_count s) ≤ total
-  pub most : total
-      ≤ 19 * added instruction_count s 0 (record_count s) + 18 * added access_count s 0 (record_count s) + added idle_count s 0 (record_count s)
+  pub least : in_all instruction_count s + in_all access_count s + in_all idle_count s ≤ total
+  pub most : total ≤ 19 * in_all instruction_count s + 18 * in_all access_count s + in_all idle_count s
 
 -- the limits of an accepted run's total, in bytes and numbers alone
 unfoldable pub TotalWithin : Type 0
@@ -122,9 +133,10 @@ WholeDemand3 =
     (i j : Lent) (o p : Outcome) → o ≡ outcome i → p ≡ outcome j → o.number ≡ 0 → p.number ≡ 0
     → AlikeSheets i.sheet j.sheet → AlikeBoards i.board j.board → Demand3 i j o p
 
--- ---- the requests
+-- ---- whether a store landed (W-201)
 
--- W-201: byte 8 of a WRITE's answer is the number of memory bytes that its store wrote
+-- byte 8 of a WRITE's answer is the number of memory bytes that its store wrote: each at a place of its own, which holds
+-- afterwards what was stored there, and no other byte changes
 unfoldable pub LandedTold : Type 0
 LandedTold =
     (i : Lent) (o : Outcome) → o ≡ outcome i → o.number ≡ 0 → (k : ℕ) → k < record_count i.sheet
@@ -138,3 +150,14 @@ LandedAlike =
     → (z : AccessSize) (a v u : ℕ) → step_of (record_at i.sheet k) ≡ Write z a v → step_of (record_at j.sheet k) ≡ Write z a u
     → i.lengths ≡ j.lengths → mode_of i.lengths (state_at i k).store ≡ mode_of j.lengths (state_at j k).store
     → hits_byte o k ≡ hits_byte p k
+
+-- which bytes land, and so how many, is the same for every stored value
+unfoldable pub SamePlaces : Type 0
+SamePlaces =
+    (l : Lengths) (mode : ℕ) (z : AccessSize) (a v u : ℕ) → places_of (puts l mode z a v) ≡ places_of (puts l mode z a u)
+
+-- of an expanded video byte each of the two bytes counts that lies within the memory
+unfoldable pub ExpandedByte : Type 0
+ExpandedByte =
+    (mode a v : ℕ) (m : VideoMemory) (p : Part) (i : ℕ) → fills mode m i ≡ true
+    → length (puts_at mode Byte a v (Video m p i)) ≡ bit (ltb (lowered 2 i) p.size) + bit (ltb (lowered 2 i + 1) p.size)

@@ -6,7 +6,8 @@ use Rattle.model.specs.Sheet.{max_records}
 use Rattle.model.specs.Outcome.{outcome}
 use Rattle.model.specs.Alike.{AlikeSheets, AlikeBoards}
 use Rattle.model.specs.Tariff.{Tariffed, Billed, bill, Bills, SameBill}
-use Rattle.model.specs.Laws.Refusal.{Index}
+use Rattle.model.specs.Laws.Refusal.{Index, LowerOfTwo}
+use Rattle.model.specs.Laws.Charge.{Rounded}
 use Rattle.model.specs.Laws.Billed.{TariffTable, TariffAcceptable, RateAlone, SharesRoom, Fair, Unbilled}
 
 -- each number exactly when its row of the tariff's table holds and no earlier one does, and 0 exactly when none does
@@ -29,7 +30,11 @@ RateRefused = (t : Tariffed) (b : Billed) → b ≡ bill t → Exactly (b.run.nu
 unfoldable pub BilledIndex : Type 0
 BilledIndex = (t : Tariffed) (b : Billed) → b ≡ bill t → Index t.run.sheet b.run.number b.run.index
 
--- it fits its 32 bits
+-- W-203: the record that 7 names, as a run's
+unfoldable pub BilledFirstOfTwo : Type 0
+BilledFirstOfTwo = (t : Tariffed) (b : Billed) → b ≡ bill t → b.run.number ≡ 7 → LowerOfTwo t.run.sheet b.run.index
+
+-- the index fits its 32 bits
 unfoldable pub SmallBilledIndex : Type 0
 SmallBilledIndex = (t : Tariffed) (b : Billed) → b ≡ bill t → b.run.index ≤ max_records
 
@@ -40,6 +45,10 @@ RefusedUnbilled = (t : Tariffed) (b : Billed) → b ≡ bill t → b.run.number 
 -- with room for the shares and a fair rate it is the run's outcome, refused or not; so all that is promised of a run holds here
 unfoldable pub BilledRun : Type 0
 BilledRun = (t : Tariffed) (b : Billed) → b ≡ bill t → SharesRoom t → Fair t.rate → b.run ≡ outcome t.run
+
+-- the charge of an accepted run is its total × rate / 1,000,000, rounded up to the cent
+unfoldable pub ChargedUp : Type 0
+ChargedUp = (t : Tariffed) (b : Billed) → b ≡ bill t → b.run.number ≡ 0 → Rounded t.rate b.run.total b.charge
 
 -- an accepted run by itself: its charge, its shares, their sum and bounds, and that nothing wraps
 unfoldable pub BilledFairly : Type 0

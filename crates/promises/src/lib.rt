@@ -1,6 +1,6 @@
-// What is promised of the four exported functions beyond the equation that each one's contract is. A promise is the contract of a
-// function that does nothing, by name: its statement stands in specs/, in the file of the same name, and the law that proves it in
-// proofs/, by the function's name.
+// What is promised of the four exported functions, `bts_run`, `bts_run_tariff`, `bts_run_grounds` and `bts_preview`, beyond the
+// equation that each one's contract is. A promise is the contract of a function that does nothing: its statement stands in the
+// file of specs/ that the clause names (`run` is specs/Run.antt), and the law that proves it in proofs/, by the function's name.
 #![tactic(auto)]
 
 ghost use Rattle.promises.specs.Run as run;
@@ -11,6 +11,8 @@ ghost use Rattle.promises.specs.Blocks as blocks;
 ghost use Rattle.promises.specs.Versions as versions;
 ghost use Rattle.promises.specs.Accesses as accesses;
 ghost use Rattle.promises.specs.Figures as figures;
+
+// ---- a run, `bts_run`
 
 // ---- demand 1
 
@@ -38,8 +40,8 @@ pub fn index()
     ensures { run.IndexTold }
 {}
 
-// W-203: the record that 7 names is the lower of the first with a fault of kind or size and the first with one of the other
-// fields.
+// W-203: the record that 7 names is the lower of two, the first with a fault of kind or size and the first with one of the
+// other fields.
 #[tactic(auto, using(crate::proofs::Run::first_of_two))]
 pub fn first_of_two()
     ensures { run.FirstOfTwo }
@@ -57,13 +59,13 @@ pub fn refuses()
     ensures { run.RefusedUntouched }
 {}
 
-// An accepted run leaves a sound board.
+// An accepted run over bytes leaves a sound board.
 #[tactic(auto, using(crate::proofs::Run::leaves_sound))]
 pub fn leaves_sound()
     ensures { run.SoundLeft }
 {}
 
-// Its total is far from 64 bits.
+// Its total is at most 4096 · (2^32 - 1), far from 64 bits.
 #[tactic(auto, using(crate::proofs::Run::small_total))]
 pub fn small_total()
     ensures { run.SmallTotal }
@@ -96,9 +98,10 @@ pub fn same_times()
     ensures { run.WholeDemand3 }
 {}
 
-// ---- the requests
+// ---- whether a store landed (W-201)
 
-// W-201: byte 8 of a WRITE's answer is the number of memory bytes that its store wrote.
+// Byte 8 of a WRITE's answer is the number of memory bytes that its store wrote: each at a place of its own, which holds
+// afterwards what was stored there, and no other byte changes.
 #[tactic(auto, using(crate::proofs::Run::landed_told))]
 pub fn landed_told()
     ensures { run.LandedTold }
@@ -110,7 +113,19 @@ pub fn landed_alike()
     ensures { run.LandedAlike }
 {}
 
-// ---- a run under a tariff (W-202)
+// Which bytes land, and so how many, is the same for every stored value.
+#[tactic(auto, using(crate::proofs::Run::same_places))]
+pub fn same_places()
+    ensures { run.SamePlaces }
+{}
+
+// Of an expanded video byte each of the two bytes counts that lies within the memory.
+#[tactic(auto, using(crate::proofs::Run::expanded_byte))]
+pub fn expanded_byte()
+    ensures { run.ExpandedByte }
+{}
+
+// ---- a run under a tariff, `bts_run_tariff` (W-202)
 
 // Each number exactly when its row of the tariff's table holds and no earlier one does, and 0 exactly when none does.
 #[tactic(auto, using(crate::proofs::Tariff::tariff_table))]
@@ -142,7 +157,13 @@ pub fn tariff_index()
     ensures { tariff.BilledIndex }
 {}
 
-// It fits its 32 bits.
+// W-203: the record that 7 names, as a run's.
+#[tactic(auto, using(crate::proofs::Tariff::tariff_first_of_two))]
+pub fn tariff_first_of_two()
+    ensures { tariff.BilledFirstOfTwo }
+{}
+
+// The index fits its 32 bits.
 #[tactic(auto, using(crate::proofs::Tariff::tariff_few_records))]
 pub fn tariff_few_records()
     ensures { tariff.SmallBilledIndex }
@@ -161,6 +182,12 @@ pub fn whole_run()
     ensures { tariff.BilledRun }
 {}
 
+// The charge of an accepted run is its total × rate / 1,000,000, rounded up to the cent.
+#[tactic(auto, using(crate::proofs::Tariff::charged_up))]
+pub fn charged_up()
+    ensures { tariff.ChargedUp }
+{}
+
 // An accepted run by itself: its charge, its shares, their sum and bounds, and that nothing wraps.
 #[tactic(auto, using(crate::proofs::Tariff::bills))]
 pub fn bills()
@@ -174,7 +201,7 @@ pub fn same_bills()
     ensures { tariff.SameBills }
 {}
 
-// ---- a preview (W-205)
+// ---- a preview, `bts_preview` (W-205)
 
 // For all memories that the run accepts it is the run on a copy of the board, but for the named zeros, and it is accepted
 // exactly when the run with some memories is.
@@ -195,13 +222,19 @@ pub fn preview_refusals()
     ensures { preview.NoOtherPreviewed }
 {}
 
-// The index.
+// The index: 0 for the others, the first faulty record for 7, the number of records for 0.
 #[tactic(auto, using(crate::proofs::Preview::preview_index))]
 pub fn preview_index()
     ensures { preview.PreviewedIndex }
 {}
 
-// It fits its 32 bits.
+// W-203: the record that 7 names, as a run's.
+#[tactic(auto, using(crate::proofs::Preview::preview_first_of_two))]
+pub fn preview_first_of_two()
+    ensures { preview.PreviewedFirstOfTwo }
+{}
+
+// The index fits its 32 bits.
 #[tactic(auto, using(crate::proofs::Preview::preview_few_records))]
 pub fn preview_few_records()
     ensures { preview.SmallPreviewedIndex }
@@ -225,7 +258,7 @@ pub fn same_previews()
     ensures { preview.SamePreviews }
 {}
 
-// ---- a run with the grounds of its prices (W-206)
+// ---- a run with the grounds of its prices, `bts_run_grounds` (W-206)
 
 // Each number exactly when its row of the table holds and no earlier one does, and 0 exactly when none does.
 #[tactic(auto, using(crate::proofs::Grounds::grounds_table))]
@@ -245,13 +278,19 @@ pub fn grounds_accepts()
     ensures { grounds.ExplainAccepted }
 {}
 
-// The index.
+// The index: 0 for 1 to 6, the first faulty record for 7, the number of records for 0.
 #[tactic(auto, using(crate::proofs::Grounds::grounds_index))]
 pub fn grounds_index()
     ensures { grounds.ExplainedIndex }
 {}
 
-// It fits its 32 bits.
+// W-203: the record that 7 names, as a run's.
+#[tactic(auto, using(crate::proofs::Grounds::grounds_first_of_two))]
+pub fn grounds_first_of_two()
+    ensures { grounds.ExplainedFirstOfTwo }
+{}
+
+// The index fits its 32 bits.
 #[tactic(auto, using(crate::proofs::Grounds::grounds_few_records))]
 pub fn grounds_few_records()
     ensures { grounds.SmallExplainedIndex }
@@ -276,6 +315,12 @@ pub fn explains()
     ensures { grounds.GroundsGiven }
 {}
 
+// A byte says which ground it is: no two grounds have one byte.
+#[tactic(auto, using(crate::proofs::Grounds::ground_bytes))]
+pub fn ground_bytes()
+    ensures { grounds.GroundBytes }
+{}
+
 // Any two accepted runs with alike sheets and boards, whatever memories they are lent: the same grounds, and all that demand 3
 // says.
 #[tactic(auto, using(crate::proofs::Grounds::same_grounds))]
@@ -284,6 +329,13 @@ pub fn same_grounds()
 {}
 
 // ---- blocks (W-207)
+
+// In a version 2 sheet a record of kind 10 or 11 is without fault exactly when its size is 4, flag and zero byte are 0 and its
+// value is 1 to 16; it then stands for as many words, from its address lowered to a multiple of 4 on.
+#[tactic(auto, using(crate::proofs::Blocks::block_records))]
+pub fn block_records()
+    ensures { blocks.BlockRecords }
+{}
 
 // Byte 8 of a BLOCK WRITE's answer is the number of memory bytes that its words' stores wrote: each at a place of its own,
 // where there is 0 afterwards, and no other byte changes.
@@ -306,8 +358,8 @@ pub fn block_words()
 {}
 
 // A second accepted call, whose sheet has the records of the first with each block written out, leaves and answers the same.
-#[tactic(auto, using(crate::proofs::Blocks::same_words))]
-pub fn same_words()
+#[tactic(auto, using(crate::proofs::Blocks::as_words))]
+pub fn as_words()
     ensures { blocks.SameAsWords }
 {}
 
@@ -328,6 +380,8 @@ pub fn told_words()
 pub fn dearest_block()
     ensures { blocks.DearestBlock }
 {}
+
+// ---- the two versions of a sheet (W-207)
 
 // ---- every version but 1 and 2 is refused with 2
 
@@ -355,9 +409,9 @@ pub fn preview_other_versions()
     ensures { versions.OthersUnpreviewed }
 {}
 
-// ---- a version 1 sheet means what it did before there was a version 2: by definitions of that time, down to a step's time and price
+// ---- a version 1 sheet means what it did before there was a version 2
 
-// A run of it.
+// A run of it: by definitions of that time, down to a step's time and price.
 #[tactic(auto, using(crate::proofs::Versions::as_before))]
 pub fn as_before()
     ensures { versions.RunAsBefore }
@@ -381,21 +435,27 @@ pub fn preview_as_before()
     ensures { versions.PreviewAsBefore }
 {}
 
-// ---- Thumb's POP in version 2: the price, `cart_idle` and the force flag of each opcode, as answered by an accepted run
+// And a reader of that time refuses a marked version 2 sheet with 2: in a run, a bill, a preview and a run with grounds.
+#[tactic(auto, using(crate::proofs::Versions::two_unknown_before))]
+pub fn two_unknown_before()
+    ensures { versions.TwoUnknownBefore }
+{}
 
-// At 0xBCxx and 0xBDxx it is found: one cycle more, `cart_idle` one more, and the flag as the disable bug has it.
-#[tactic(auto, using(crate::proofs::Versions::pop_found))]
-pub fn pop_found()
+// ---- Thumb's POP in version 2: price, `cart_idle` and force flag of each opcode, as an accepted run answers and leaves them
+
+// At 0xBCxx and 0xBDxx POP is found: one cycle more, `cart_idle` one more, and the flag as the disable bug has it.
+#[tactic(auto, using(crate::proofs::Versions::pop_at_bc))]
+pub fn pop_at_bc()
     ensures { versions.PopFound }
 {}
 
 // At 0xBAxx and 0xBBxx no longer: the fetch alone, and no flag.
-#[tactic(auto, using(crate::proofs::Versions::pop_lost))]
-pub fn pop_lost()
+#[tactic(auto, using(crate::proofs::Versions::pop_at_ba))]
+pub fn pop_at_ba()
     ensures { versions.PopLost }
 {}
 
-// Every other opcode, Thumb's and ARM's, answers and leaves what it does in version 1.
+// Every other opcode, Thumb's (2) and ARM's (4), answers and leaves what it does in version 1.
 #[tactic(auto, using(crate::proofs::Versions::other_opcodes))]
 pub fn other_opcodes()
     ensures { versions.OtherOpcodes }
@@ -442,14 +502,14 @@ pub fn only_the_previous()
 {}
 
 // READ, WRITE and the words of a block set the previous access, IDLE, PC and LATCH keep it, the other four clear it.
-#[tactic(auto, using(crate::proofs::Accesses::previous_after_law))]
-pub fn previous_after_law()
+#[tactic(auto, using(crate::proofs::Accesses::previous_by_kind))]
+pub fn previous_by_kind()
     ensures { accesses.PreviousAfter }
 {}
 
 // An access costs 1 to 18 cycles after any other.
-#[tactic(auto, using(crate::proofs::Accesses::data_between))]
-pub fn data_between()
+#[tactic(auto, using(crate::proofs::Accesses::access_limits))]
+pub fn access_limits()
     ensures { accesses.AccessLimits }
 {}
 

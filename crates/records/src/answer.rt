@@ -4,8 +4,8 @@ ghost use Rattle.model.specs.BoardBytes as def;
 
 use model::{ANSWER_LENGTH, Answer};
 
-// Two words and four bytes. They are handed back, and not put in a part of the buffer, so that nothing is asked of a length; tried,
-// the compiler makes the same code of both.
+// Two words and four bytes. They are handed back, and not put in a part of the buffer, so that nothing is asked of a length;
+// tried, the compiler makes the same code of both.
 pub fn answer_bytes(x: Answer) -> [u8; ANSWER_LENGTH]
     ensures { result ≡ def.answer_bytes x }
 {

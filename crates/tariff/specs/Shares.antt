@@ -1,4 +1,5 @@
--- What the tariff's functions ask, and the shares of the steps from one on, which a loop writes from the last step to the first.
+-- What the tariff's functions and their loop rest on, and the shares of the steps from one on, which a loop writes from the last
+-- step to the first.
 use Rattle.std.specs.Prelude.{◌≡◌, refl, List, ◌∷◌, ◌++◌, ℕ, suc, ◌+◌, ◌-◌, ◌*◌, ◌/◌, ◌^◌, ◌≤◌, ◌<◌, length, take, drop}
 use Rattle.std.proofs.Common.{sym, ap₂, ◌∙◌, append_assoc, arith, add-mul, take-append-drop, length-append, length-drop, length-take-le}
 use Rattle.std.proofs.Math.Path.{ap}
@@ -12,7 +13,7 @@ use Rattle.model.specs.Tariff.{rate_cycles, max_rate, cost, charge, shares_after
 use Rattle.model.proofs.Laws.Codec.{numbers_length, put_before}
 use Rattle.model.proofs.Laws.Charge.{cycles_length, cycles_further, cost_fits, charge_grows, shares_length}
 
--- ---- what is asked
+-- ---- what they rest on: `Payable` is asked, `Summed` is in the type of a run's cycles, and `Billable` is what both come to
 
 -- cycles of a run, and a rate that is not too high: nothing wraps
 pub record Payable (rate cycles : ℕ) : Type 0 where

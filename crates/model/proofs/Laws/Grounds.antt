@@ -283,7 +283,8 @@ unfolding data_beats data_grounds
 data_worth w p z a =
     let n = aligned z a in
     bus_worth w z (kind_at n (kind_after p n)) (first_ground p n) (first_worth w p n) (bus_kind (decode a))
-    ∙ ap (λ (v : Option RomWindow). sum (map (ground_cycles w v Half) (data_grounds_on z (first_ground p n) (bus_kind (decode a)))))
+    ∙ ap (λ (v : Option RomWindow).
+    sum (map (ground_cycles w v Half) (data_grounds_on z (first_ground p n) (bus_kind (decode a)))))
     (sym (bus_window_law a))
 
 -- and its words make a block's

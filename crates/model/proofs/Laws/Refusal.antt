@@ -2,7 +2,7 @@
 -- earlier one does; the index; and what a refusal leaves.
 use Rattle.std.specs.Prelude.{◌≡◌, refl, Bool, true, false, not, ◌||◌, ◌≢◌, List, [], ◌∷◌, ℕ, zero, suc, ◌+◌, ◌≤◌, ◌<◌, min, length, get_or, ltb}
 use Rattle.std.proofs.Common.{sym, ap, ◌∙◌, arith, lit<, le-ltb, ltb-true, ltb-false}
-use Rattle.std.proofs.lemmas.Bool.{not-false}
+use Rattle.std.proofs.lemmas.Bool.{not-false, false≢true}
 use Rattle.model.specs.Base.{Exactly}
 use Rattle.model.specs.Sheet.{record_count}
 use Rattle.model.specs.Sheet.{record_at, records_from, records_of, kind_fault, field_fault, faulty, first_of}
@@ -131,6 +131,23 @@ module _ (s : List ℕ) where
         lower = first_either kind_fault field_fault (records_of s);
       }
 
+-- there is one first faulty record
+one_first : (s : List ℕ) (k : ℕ) → FirstFault s k → k ≡ fault_index s
+one_first s k h =
+    by_test (ltb k (fault_index s))
+    (λ e. absurd (false≢true (sym (fine faulty s k h.within (ltb-true _ _ e)) ∙ h.there)))
+    (λ e.
+    by_test (ltb (fault_index s) k)
+    (λ d.
+    let l : fault_index s < k = ltb-true _ _ d in
+    let f = first_fault s (omega (arith, h.within)) in
+    absurd (false≢true (sym (h.before (fault_index s) l) ∙ f.there)))
+    (λ d. omega (arith, ltb-false _ _ e, ltb-false _ _ d)))
+
+-- so what is said of the first faulty record, as any table's index tells it, is said of the lower of two
+pub first_lower : (s : List ℕ) (k : ℕ) → FirstFault s k → LowerOfTwo s k
+first_lower s k h = rw (one_first s k h) (lower_of_two s)
+
 -- ---- the rows
 
 rising : (i : Lent) → Rising 0 (rows i)
@@ -210,10 +227,9 @@ index i =
       accepted = λ h. ap (λ (o : Outcome). o.index) (was_accepted i h);
     }
 
--- W-203, of an outcome: the record that 7 names
-pub faulty_lower : (i : Lent) → (outcome i).number ≡ 7 → LowerOfTwo i.sheet (outcome i).index
-unfolding outcome verdict
-faulty_lower i h = rw (decides_refusal (rows i) 6 ((table i).records.0 h)) (lower_of_two i.sheet)
+-- W-203: the record that 7 names, of any table with such an index
+pub faulty_lower : (s : List ℕ) {number k : ℕ} → Index s number k → number ≡ 7 → LowerOfTwo s k
+faulty_lower s {number} {k} told h = first_lower s k (told.faulty_record h)
 
 -- ---- an accepted run
 

@@ -1,7 +1,7 @@
 -- W-207: the run refuses every version but 1 and 2 with 2, and so do the three other operations; and what version 2 moves in the
 -- price of an instruction, its `cart_idle` and its force flag, as priced and as answered: Thumb's 0xBA to 0xBD, and nothing else.
-use Rattle.std.specs.Prelude.{◌≡◌, refl, ◌≢◌, Bool, true, false, not, ◌&&◌, List, ◌++◌, ℕ, ◌+◌, eqb, leb}
-use Rattle.std.proofs.Common.{sym, ap, ap₂, ◌∙◌, arith, add-zero, eqb-true}
+use Rattle.std.specs.Prelude.{◌≡◌, refl, ◌≢◌, Bool, true, false, not, ◌&&◌, ◌||◌, List, ◌++◌, ℕ, ◌+◌, ◌≤◌, eqb, leb}
+use Rattle.std.proofs.Common.{sym, ap, ap₂, ◌∙◌, arith, add-zero, eqb-true, leb-true}
 use Rattle.std.proofs.Math.Bool.{and-true, and-false}
 use Rattle.std.proofs.lemmas.Bool.{not-false, not-true}
 use Rattle.std.specs.Prelude.{if◌then◌else◌}
@@ -13,12 +13,14 @@ use Rattle.model.specs.Timing.{internal, cart_idle_of, disable_bug, price_insn}
 use Rattle.model.specs.Step.{Media, State, waits_of, timing_input, priced, code_clock, timed, answering, changed}
 use Rattle.model.specs.Step.{joined, stepped, answer_of, answer}
 use Rattle.model.specs.Sheet.{latest_version, knows, version_of, rules_of, record_at, isa_state, step_of}
+use Rattle.model.specs.Sheet.{size_fits, kind_fault, field_fault, faulty, fields_fit, is_block, words_of}
 use Rattle.model.specs.Outcome.{Lent, Row, sheet_rows, outcome}
 use Rattle.model.specs.Tariff.{Tariffed, bill}
 use Rattle.model.specs.Preview.{Asked, preview}
 use Rattle.model.specs.Grounds.{Explaining, explain}
 use Rattle.model.specs.VersionOne.{internal₁, price_insn₁, Instruction₁, priced₁, code_clock₁, timed₁, changed₁}
 use Rattle.model.proofs.Laws.Choice.{by_test, never, eqb_ne, or_false_left, or_false_right, or_right, parts, tests}
+use Rattle.model.proofs.Laws.Limits.{words_are}
 use Rattle.model.specs.Laws.Rows.{TableOf}
 use Rattle.model.proofs.Laws.Refusal.{run_table}
 use Rattle.model.proofs.Laws.Billed.{tariff_table}
@@ -37,6 +39,8 @@ use Rattle.model.specs.declared.Version.TheVariants.{One, Two}
 use Rattle.model.specs.declared.SheetRecord.{SheetRecord}
 use Rattle.model.specs.declared.Step.{Step}
 use Rattle.model.specs.declared.Step.TheVariants.{Instruction}
+use Rattle.model.specs.Base.{Exactly}
+use Rattle.model.specs.Laws.Versions.{BlockFits, BlockRecord}
 use Rattle.model.specs.Laws.Versions.{RefusesOtherVersions, top_byte, is_pop, was_pop, Elsewhere}
 use Rattle.model.specs.Laws.Versions.{thumb_buffer, fetch_alone, fetch_idle, WithInternal, WithoutInternal, AnsweredWith, AnsweredWithout, AsInOne}
 
@@ -58,7 +62,8 @@ no_other v a b =
     (λ e. e)
 
 -- so a table that begins with the rows of a sheet, as all four do, refuses every other with 2
-versions_by_table : (s : List ℕ) (more : List Row) {number : ℕ} → TableOf (sheet_rows s ++ more) number → RefusesOtherVersions s number
+versions_by_table : (s : List ℕ) (more : List Row) {number : ℕ} → TableOf (sheet_rows s ++ more) number
+    → RefusesOtherVersions s number
 versions_by_table s more t =
     let second = t.row 1 (omega arith) in (
       λ e.
@@ -86,6 +91,10 @@ two_rules : (s : List ℕ) → version_of s ≡ 2 → rules_of s ≡ Two
 unfolding rules_of
 two_rules s e = ap (λ (v : ℕ). if eqb v 2 then Two else One) e
 
+two_version : (s : List ℕ) (k : ℕ) → version_of s ≡ 2 → (record_at s k).version ≡ Two
+unfolding record_at
+two_version s k e = two_rules s e
+
 instruction_step : (r : SheetRecord) → r.kind ≡ 7
     → step_of r ≡ Instruction r.version (isa_state r.size) r.address r.value (eqb r.flag 1)
 unfolding step_of
@@ -99,6 +108,93 @@ two_instruction s k two e =
     instruction_step (record_at s k) e
     ∙ ap (λ (v : Version).
     let r = record_at s k in Instruction v (isa_state r.size) r.address r.value (eqb r.flag 1)) (two_rules s two)
+
+-- ---- a block's record, in a version 2 sheet
+
+either_not : (b c : Bool) → not b || not c ≡ not (b && c)
+either_not true c = refl
+either_not false c = refl
+
+-- a record of kind 10 or 11
+module _ (z f p a v : ℕ) where
+  abbrev block : ℕ → SheetRecord
+  block k = record { version = Two; kind = k; size = z; flag = f; zero_byte = p; address = a; value = v }
+
+  abbrev block_test : Bool
+  block_test = eqb z 4 && fields_fit (block 10)
+
+  same_faulty : faulty (block 10) ≡ not block_test
+  unfolding kind_fault field_fault size_fits
+  same_faulty = either_not (eqb z 4) (fields_fit (block 10))
+
+  same_written : faulty (block 11) ≡ faulty (block 10)
+  unfolding kind_fault field_fault size_fits
+  same_written = refl
+
+  passes : BlockFits (block 10) → block_test ≡ true
+  passes h =
+      let least : leb 1 v ≡ true = by_test (leb 1 v) (λ e. e) (λ e. absurd (omega (arith, tests, h.least))) in
+      let most : leb v 16 ≡ true = by_test (leb v 16) (λ e. e) (λ e. absurd (omega (arith, tests, h.most))) in
+      rw (h.size, h.flag, h.unused, least, most)
+
+  passed : block_test ≡ true → BlockFits (block 10)
+  passed e =
+      record {
+        size = eqb-true z 4 (search parts);
+        flag = eqb-true f 0 (search parts depth 9);
+        unused = eqb-true p 0 (search parts depth 9);
+        least = leb-true 1 v (search parts);
+        most = leb-true v 16 (search parts);
+      }
+
+  block_exactly : Exactly (faulty (block 10) ≡ false) (BlockFits (block 10))
+  block_exactly = (λ e. passed (not-false _ (sym same_faulty ∙ e)), λ h. same_faulty ∙ ap not (passes h))
+
+-- its step has as many words as its value says
+block_words_are : (v : ℕ) → 1 ≤ v → v ≤ 16 → words_of v ≡ v
+block_words_are v l m = words_are v (record { least = l; most = m })
+
+fits_as : (r : SheetRecord) (k : ℕ) → BlockFits (block r.size r.flag r.zero_byte r.address r.value k) → BlockFits r
+fits_as r k h = record { size = h.size; flag = h.flag; unused = h.unused; least = h.least; most = h.most }
+
+as_fits : (r : SheetRecord) (k : ℕ) → BlockFits r → BlockFits (block r.size r.flag r.zero_byte r.address r.value k)
+as_fits r k h = record { size = h.size; flag = h.flag; unused = h.unused; least = h.least; most = h.most }
+
+-- by its kind and version
+is_that : (r : SheetRecord) (k : ℕ) → r.version ≡ Two → r.kind ≡ k → r ≡ block r.size r.flag r.zero_byte r.address r.value k
+is_that r k v e =
+    ap₂ (λ (w : Version) (n : ℕ). record {
+      version = w;
+      kind = n;
+      size = r.size;
+      flag = r.flag;
+      zero_byte = r.zero_byte;
+      address = r.address;
+      value = r.value;
+    }) v e
+
+fault_of : (r : SheetRecord) → r.version ≡ Two → is_block r.kind ≡ true
+    → faulty r ≡ faulty (block r.size r.flag r.zero_byte r.address r.value 10)
+fault_of r v b =
+    by_test (eqb r.kind 10) (λ e. ap faulty (is_that r 10 v (eqb-true r.kind 10 e)))
+    (λ e.
+    ap faulty (is_that r 11 v (eqb-true r.kind 11 (or_right _ _ b e)))
+    ∙ same_written r.size r.flag r.zero_byte r.address r.value)
+
+pub block_record : (r : SheetRecord) → r.version ≡ Two → is_block r.kind ≡ true → BlockRecord r
+unfolding step_of
+block_record r v b =
+    let same = fault_of r v b in
+    let exactly = block_exactly r.size r.flag r.zero_byte r.address r.value in
+    record {
+      faultless = (λ e. fits_as r 10 (exactly.0 (sym same ∙ e)), λ h. same ∙ exactly.1 (as_fits r 10 h));
+      reads = λ e h. rw (e, block_words_are r.value h.least h.most);
+      writes = λ e h. rw (e, block_words_are r.value h.least h.most);
+    }
+
+-- of a version 2 sheet
+pub two_block : (s : List ℕ) (k : ℕ) → version_of s ≡ 2 → is_block (record_at s k).kind ≡ true → BlockRecord (record_at s k)
+two_block s k two b = block_record (record_at s k) (two_version s k two) b
 
 -- ---- the four opcode bytes
 

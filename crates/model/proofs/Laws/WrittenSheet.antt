@@ -34,8 +34,8 @@ behind s pre b k e l n i = rw (e, ← l) (number_past n pre b i)
 byte_behind : (s pre b : List ℕ) (k : ℕ) → s ≡ pre ++ b → length pre ≡ k → (i : ℕ) → byte_at s (k + i) ≡ byte_at b i
 byte_behind s pre b k e l i = rw (e, ← l) (get_or-append-add pre b i 0)
 
-module _ (s pre rest : List ℕ) (k : ℕ) (r : SheetRecord) (e : s ≡ pre ++ (record_bytes r ++ rest)) (l : length pre ≡ record_start k)
-    (f : RecordFits (rules_of s) r) where
+module _ (s pre rest : List ℕ) (k : ℕ) (r : SheetRecord) (e : s ≡ pre ++ (record_bytes r ++ rest))
+    (l : length pre ≡ record_start k) (f : RecordFits (rules_of s) r) where
   a_byte : (i : ℕ) → byte_at s (record_start k + i) ≡ byte_at (record_bytes r ++ rest) i
   a_byte = byte_behind s pre (record_bytes r ++ rest) (record_start k) e l
 

@@ -1,15 +1,16 @@
 -- Words of the laws in proofs/Laws/Versions.antt, as definitions. Those laws:
--- W-207: the run refuses every version but 1 and 2 with 2, and so do the three other operations; and what version 2 moves in the
+-- W-207: the run refuses every version but 1 and 2 with 2, and so do the three other operations; when a block's record is
+-- without fault, and what it stands for; and what version 2 moves in the
 -- price of an instruction, its `cart_idle` and its force flag, as priced and as answered: Thumb's 0xBA to 0xBD, and nothing else.
-use Rattle.std.specs.Prelude.{◌≡◌, ◌≢◌, Bool, true, false, not, ◌&&◌, ◌||◌, List, ℕ, ◌+◌, ◌/◌, ◌%◌, eqb}
+use Rattle.std.specs.Prelude.{◌≡◌, ◌≢◌, Bool, true, false, not, ◌&&◌, ◌||◌, List, ℕ, ◌+◌, ◌/◌, ◌%◌, ◌≤◌, eqb}
 use Rattle.model.specs.Base.{Exactly}
 use Rattle.model.specs.Waitcnt.{Waits}
-use Rattle.model.specs.Wait.{window, in_window, nonseq_if}
+use Rattle.model.specs.Wait.{aligned, window, in_window, nonseq_if}
 use Rattle.model.specs.Price.{price}
 use Rattle.model.specs.Timing.{fetch_beats, idle_in}
 use Rattle.model.specs.Prefetch.{ticks}
 use Rattle.model.specs.Step.{Media, State, waits_of, code_fetched, stepped, answer}
-use Rattle.model.specs.Sheet.{is_marked, version_of}
+use Rattle.model.specs.Sheet.{is_marked, version_of, step_of, faulty}
 use Rattle.model.specs.VersionOne.{Instruction₁, stepped₁, answer₁}
 use Rattle.model.specs.declared.PrefetchBuffer.{PrefetchBuffer}
 use Rattle.model.specs.declared.TimingInput.{TimingInput}
@@ -19,7 +20,9 @@ use Rattle.model.specs.declared.Answer.{Answer}
 use Rattle.model.specs.declared.IsaState.{IsaState}
 use Rattle.model.specs.declared.IsaState.TheVariants.{Arm, Thumb}
 use Rattle.model.specs.declared.Version.TheVariants.{Two}
-use Rattle.model.specs.declared.Step.TheVariants.{Instruction}
+use Rattle.model.specs.declared.AccessSize.TheVariants.{Word}
+use Rattle.model.specs.declared.SheetRecord.{SheetRecord}
+use Rattle.model.specs.declared.Step.TheVariants.{Instruction, BlockRead, BlockWrite}
 
 -- ---- the versions that are read
 
@@ -32,6 +35,23 @@ pub record OtherVersion (s : List ℕ) : Type 0 where
 -- with such a sheet a call gives number 2, and with no other
 abbrev pub RefusesOtherVersions : List ℕ → ℕ → Type 0
 RefusesOtherVersions s number = Exactly (number ≡ 2) (OtherVersion s)
+
+-- ---- a block's record, in a version 2 sheet
+
+-- without fault: size 4, flag and zero byte 0, and 1 to 16 words
+pub record BlockFits (r : SheetRecord) : Type 0 where
+  pub size : r.size ≡ 4
+  pub flag : r.flag ≡ 0
+  pub unused : r.zero_byte ≡ 0
+  pub least : 1 ≤ r.value
+  pub most : r.value ≤ 16
+
+-- it is without fault exactly then, and stands for its words, from its address lowered to a multiple of 4 on: to be read by kind
+-- 10, to be written by kind 11
+pub record BlockRecord (r : SheetRecord) : Type 0 where
+  pub faultless : Exactly (faulty r ≡ false) (BlockFits r)
+  pub reads : r.kind ≡ 10 → BlockFits r → step_of r ≡ BlockRead (aligned Word r.address) r.value
+  pub writes : r.kind ≡ 11 → BlockFits r → step_of r ≡ BlockWrite (aligned Word r.address) r.value
 
 -- ---- the four opcode bytes: a Thumb opcode is the low 16 bits
 
