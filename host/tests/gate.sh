@@ -7,6 +7,7 @@ gate_tree() {
     gate_part host/test 'echo "library: ${BTS_LIB:-made here}"
         printf "%s\n" "left out: a folder, 5 checks (plain): why" "left out in all: 5" "9 checks, 0 failed"'
     gate_part tests/against-rust/run 'echo "cases 9: 0 differences"'
+    gate_part tests/rules 'echo "3 headings, 9 citations, 0 failed"'
 }
 
 # SCRIPT LINE: a script of the copy becomes a fake that writes down its call and does the line
@@ -31,10 +32,11 @@ gate_checks() {
     gate_tree
     inside env GRAYCART_SRC=rust tests/all
     check "all pass: status" is "$status" 0
-    for name in tools library bench host against-rust; do check "$name is told" prints "==== $name: passed"; done
-    check "the calls" is "$(cat "$scratch/calls")" "$(printf '%s\n' 'rt lib' 'rt run' 'host/test ' 'tests/against-rust/run 50')"
+    for name in tools rules library bench host against-rust; do check "$name is told" prints "==== $name: passed"; done
+    check "the calls" is "$(cat "$scratch/calls")" "$(printf '%s\n' 'tests/rules ' 'rt lib' 'rt run' 'host/test ' \
+        'tests/against-rust/run 50')"
     check "what is left out is listed at the end" is "$(tail -n 3 "$work/out")" "$(printf '%s\n' \
-        'left out: a folder, 5 checks (plain): why' 'left out in all: 5' 'tests/all: all 5 parts passed')"
+        'left out: a folder, 5 checks (plain): why' 'left out in all: 5' 'tests/all: all 6 parts passed')"
     inside env GRAYCART_SRC=rust BTS_LIB=other.a .ci/run
     check "the gate: the library of these sources" prints "library: made here"
     check "the gate: status" is "$status" 0
@@ -72,6 +74,9 @@ ci_checks() {
 }
 
 failing_part_checks() {
+    gate_tree
+    gate_part tests/rules 'echo "3 headings, 9 citations, 1 failed"; exit 1'
+    fails_in "the rules" rules
     gate_tree
     fake rt "[ \$1 != lib ] || exit 1
 $rt_passes"
