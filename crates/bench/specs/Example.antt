@@ -1,6 +1,6 @@
 -- One accepted outcome, over bytes as lent: the program `bench`'s example, whose total is 31, its grounds, and what the program
 -- writes of it, to the letter.
--- From document 01, "The program `bench`", and document 02, W-206.
+-- The example is README.md's; docs/RULES.md, "The program bench", has the rule.
 use Rattle.std.specs.Prelude.{◌≡◌, refl, List, [], ◌∷◌, ◌++◌, ℕ, replicate, codes}
 use Rattle.std.specs.Fmt.{digits}
 use Rattle.model.specs.Wait.{access_size_of}
@@ -77,7 +77,7 @@ unfolding machine rules_of record_at records_from access_size_of isa_state step_
     sizes_fit explain grounds_verdict run_grounds grounds_after half_ground fetch_grounds first_ground data_grounds
 bench_grounds = refl
 
--- what `bench` writes of it, to the letter: document 01's lines, of which 3 and 4 have a word by document 02
+-- what `bench` writes of it, to the letter
 abbrev pub example_text : List ℕ
 example_text =
     codes "0 0 0 0 0 0\n"

@@ -1,6 +1,6 @@
 -- What `bench` writes of a sheet, in bytes, from the model alone: a line for each record, with its answer and the grounds of its
 -- price, and the total; or the refusal. And how it ends.
--- From document 01, "The program `bench`", and document 02, W-206.
+-- From docs/RULES.md, "The program bench".
 use Rattle.std.specs.Prelude.{List, [], ◌++◌, ℕ, zero, suc, ◌*◌, ◌==◌, replicate, decimal, codes, flat_map, Option, ◌≡◌, ⊤}
 use Rattle.std.specs.Prelude.{if◌then◌else◌}
 use Rattle.std.specs.Io.KnownBytes.{Appends, Keeps}
@@ -17,8 +17,8 @@ use Rattle.bench.specs.declared.Ending.TheVariants.{Figures, Refusal, Unread, Un
 
 -- ---- what the program lends
 
--- to the run of a sheet: a fresh board, zeroed memories of document 01's lengths, no BIOS and no ROM, and room for the answers
--- and the grounds of the longest sheet
+-- to the run of a sheet: a fresh board, memories of zeros, no BIOS and no ROM, and room for the answers and the grounds of the
+-- longest sheet (RULES, "The program bench")
 abbrev pub bench_lends : List ℕ → Explaining
 bench_lends sheet =
     record {
@@ -75,6 +75,7 @@ text_of i o =
     if o.number == 0 then lines (λ (k : ℕ). line_text k (answer_at i k) (grounds_at i k)) o.index ++ total_text o.total
     else refusal_text o.number o.index
 
+-- of a sheet, over what the program lends (RULES, "The program bench")
 abbrev pub bench_text : List ℕ → List ℕ
 bench_text sheet = text_of (bench_lends sheet).run (explain (bench_lends sheet)).run
 
@@ -84,6 +85,7 @@ bench_text sheet = text_of (bench_lends sheet).run (explain (bench_lends sheet))
 abbrev pub ending_by : ℕ → Ending
 ending_by number = if number == 0 then Figures else Refusal
 
+-- of a sheet that was read, and whose text was written (RULES, "The program bench")
 abbrev pub bench_ending : List ℕ → Ending
 bench_ending sheet = ending_by (explain (bench_lends sheet)).run.number
 
@@ -95,7 +97,7 @@ Wrote sheet Refusal before after = (bench_ending sheet ≡ Refusal) × Appends b
 Wrote sheet Unread before after = Keeps before after
 Wrote sheet Unwritten before after = ⊤
 
--- its exit status
+-- its exit status (RULES, "The program bench")
 abbrev pub status_of : Ending → ℕ
 status_of Figures = 0
 status_of Refusal = 1

@@ -147,7 +147,7 @@ fn print_report<W: Write>(
     Ok(Ending::Figures)
 }
 
-// The lengths of document 01's program, 61,444 bytes together.
+// The lengths of the lent memories (docs/RULES.md, "The program bench"), 61,444 bytes together.
 const MEMORIES: Lengths = Lengths {
     ewram: 16384,
     iwram: 16384,

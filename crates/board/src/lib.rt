@@ -1,4 +1,4 @@
-// A board as bytes: reading them, writing them, and whether they are sound. From document 01, "Board".
+// A board as bytes: reading them, writing them, and whether they are sound. From docs/RULES.md, "The board" and "A sound board".
 #![tactic(auto)]
 
 ghost use Rattle.std.specs.Prelude.{◌≡◌, map, ◌≤◌, length};
@@ -121,7 +121,7 @@ fn sound_prefetch(p: PrefetchBuffer) -> bool
         & (p.enabled | is_zero(p))
 }
 
-// The previous data access: with size 0 its address is 0, otherwise a multiple of its size, which is 1, 2 or 4 (W-204).
+// The previous data access: with size 0 its address is 0, otherwise a multiple of its size, which is 1, 2 or 4.
 #[tactic(auto, unfolding(model::specs::BoardBytes::sound_previous))]
 fn sound_previous(p: Previous) -> bool
     ensures { result ≡ def.sound_previous p }

@@ -1,5 +1,5 @@
-// What is examined before a run or a preview: the refusals, in the order of document 01's table, and the tariff's. Nothing is
-// written here.
+// What is examined before a run or a preview: the refusals, in the order of the table in docs/RULES.md,
+// "What a run is refused with", and the tariff's. Nothing is written here.
 #![tactic(auto)]
 
 ghost use Rattle.std.specs.Prelude.{◌≡◌, ◌++◌, ◌≤◌, IfOk};
@@ -231,7 +231,7 @@ pub fn examine_preview<'s>(
     Ok(accepted)
 }
 
-// The documents' number of a refusal, which reports and bills have; a `From` would stand in model.
+// The table's number of a refusal, which reports and bills have; a `From` would stand in model.
 pub fn refusal_number(r: Refusal) -> u32
     ensures { result ≡ def.refusal_number r }
 {

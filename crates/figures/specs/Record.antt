@@ -1,5 +1,5 @@
--- The bytes of a figure's record, as the model reads them, and the step that they are to be. From document 01, "Sheet" and the
--- table of kinds. Assumes nothing.
+-- The bytes of a figure's record, as the model reads them, and the step that they are to be. From docs/RULES.md, "The sheet"
+-- and "The kinds of record". Assumes nothing.
 use Rattle.std.specs.Prelude.{List, ℕ, false}
 use Rattle.model.specs.Base.{byte_at, number}
 use Rattle.model.specs.declared.IsaState.TheVariants as isa

@@ -1,5 +1,5 @@
-// figures: runs the worked figures that are not theorems, those of document 01 and those in the comments of the Rust, and writes
-// what the run answers. The file `stdout` beside src/ has what they must be.
+// figures: runs the worked figures that are not theorems, those of docs/RULES.md, "Figures", and those in the comments of the
+// Rust, and writes what the run answers. The file `stdout` beside src/ has what they must be.
 #![tactic(auto)]
 
 mod record;

@@ -1,4 +1,5 @@
-// A record of a figure's sheet, and the sheet of a list of records. From document 01, "Sheet" and the table of kinds.
+// A record of a figure's sheet, and the sheet of a list of records. From docs/RULES.md, "The sheet"
+// and "The kinds of record".
 ghost use Rattle.std.specs.Prelude.{◌≡◌, ◌+◌, ◌*◌, ◌≤◌, length, IfOk};
 ghost use Rattle.model.specs.Sheet.{header_length, record_length, step_of};
 ghost use Rattle.model.specs.Wait.{access_size_of};

@@ -1,4 +1,5 @@
-// The worked figures: document 01's data prices, and the figures in the comments of the ported Rust, group by group.
+// The worked figures: the data prices of docs/RULES.md, "What a data access costs", and the figures in the comments of the ported
+// Rust, group by group.
 use crate::record::Record;
 use crate::record::Record::{Arm, Fetch, Idle, Latch, Pc, Read, Restart, Thumb, Waitcnt, Write};
 use model::AccessSize::{Byte, Half, Word};

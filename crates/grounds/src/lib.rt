@@ -1,5 +1,5 @@
 // Why a step costs what it does: the grounds of the steps of a run, told behind it from its sheet, the clock that it began with
-// and its answers. From document 02, W-206 and W-207.
+// and its answers. From docs/RULES.md, "The ground of a beat".
 //
 // A pass of its own, so that the run's loop is the same with grounds and without. What a ground needs of the clock is little: the
 // prefetch count and the force flag stand in the answers, and the rest is carried along, a `Trail`.
@@ -239,7 +239,7 @@ fn put(out: &mut [u8], beats: Beats)
     out[8..32].fill(0);
 }
 
-// Tells the grounds of a block's words (W-207), in order, into bytes that are 0, and where an access goes on behind the last. A
+// Tells the grounds of a block's words, in order, into bytes that are 0, and where an access goes on behind the last. A
 // word has one beat or two, and 16 of them fill the 32 bytes at most.
 #[tactic(auto, using(crate::proofs::Words::same_room))]
 fn put_block(out: &mut [u8], next: Option<u32>, addr: u32, words: u32) -> Option<u32>

@@ -1,5 +1,5 @@
-// A ground, its byte in a lent buffer, and document 02's name of it. They are functions, since an impl of `From` would stand
-// where the type does, in model, away from what writes and reads the bytes.
+// A ground, its byte in a lent buffer, and its word (docs/RULES.md, "The ground of a beat"). They are functions, since an impl of
+// `From` would stand where the type does, in model, away from what writes and reads the bytes.
 ghost use Rattle.std.specs.Prelude.{◌≡◌};
 ghost use Rattle.model.specs.Grounds as def;
 

@@ -120,7 +120,7 @@ impl<'a> Bus<'a> {
         u16::from_le_bytes([low, high])
     }
 
-    // `read32`: two halfword loads, each decoded by itself. A block (W-207) takes its last word by it, so that `read` has one
+    // `read32`: two halfword loads, each decoded by itself. A block takes its last word by it, so that `read` has one
     // caller, into which the compiler puts it.
     #[tactic(auto, using(crate::proofs::Arms::wide_laws), unfolding(model::specs::Load::load32))]
     pub fn read32(&self, at: Target, addr: u32) -> u32

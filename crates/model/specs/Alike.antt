@@ -1,6 +1,6 @@
--- What demand 3 says: two sheets and two boards that are alike, the answers that every accepted run gives, the limits of its
--- total, and the columns that two such runs agree in. The claim is stated once, over outcomes.
--- From document 01, "Demand 3", and document 02, W-201 and W-207.
+-- The same for every memory: two sheets and two boards that are alike, the answers that every accepted run gives, the limits of
+-- its total, and the columns that two such runs agree in. The claim is stated once, over outcomes.
+-- From docs/RULES.md, "Alike sheets and boards", "What two runs have in common" and "The bounds of a total".
 use Rattle.std.specs.Prelude.{◌≡◌, ◌≢◌, ◌||◌, List, [], ◌∷◌, map, ℕ, zero, suc, ◌+◌, ◌*◌, ◌≤◌, ◌<◌, take, drop, eqb}
 use Rattle.std.specs.Prelude.{if◌then◌else◌}
 use Rattle.model.specs.Base.{bit, sum, byte_at, number}
@@ -21,12 +21,12 @@ pub record AlikeRecords (r s : SheetRecord) : Type 0 where
   pub address : r.address ≡ s.address
   pub value : r.kind ≢ 2 → r.kind ≢ 9 → r.value ≡ s.value
 
--- sheets agree in bytes 0 to 7, and their records are alike
+-- sheets agree in bytes 0 to 7, and their records are alike (RULES, "Alike sheets and boards")
 pub record AlikeSheets (s t : List ℕ) : Type 0 where
   pub header : (i : ℕ) → i < header_length → byte_at s i ≡ byte_at t i
   pub records : (k : ℕ) → k < record_count s → AlikeRecords (record_at s k) (record_at t k)
 
--- boards agree outside bytes 20 to 35 and 40 to 67
+-- boards agree outside bytes 20 to 35 and 40 to 67 (RULES, "Alike sheets and boards")
 abbrev pub AlikeBoards : List ℕ → List ℕ → Type 0
 AlikeBoards b c = (i : ℕ) → i < board_length → ¬ ((20 ≤ i) × (i ≤ 35)) → ¬ ((40 ≤ i) × (i ≤ 67)) → byte_at b i ≡ byte_at c i
 
@@ -36,7 +36,7 @@ AlikeBoards b c = (i : ℕ) → i < board_length → ¬ ((20 ≤ i) × (i ≤ 35
 abbrev pub instructions_in : List SheetRecord → ℕ
 instructions_in rs = sum (map (λ (r : SheetRecord). bit (eqb r.kind 7)) rs)
 
--- A: the READ and WRITE records, and each word of a block (W-207)
+-- A: the READ and WRITE records, and each word of a block
 abbrev pub accesses_of : SheetRecord → ℕ
 accesses_of r = if is_block r.kind then r.value else bit (eqb r.kind 1 || eqb r.kind 2)
 
@@ -47,7 +47,7 @@ accesses_in rs = sum (map accesses_of rs)
 abbrev pub idle_cycles_in : List SheetRecord → ℕ
 idle_cycles_in rs = sum (map (λ (r : SheetRecord). if eqb r.kind 4 then r.value else 0) rs)
 
--- I + A + D ≤ total ≤ 19 I + 18 A + D
+-- I + A + D ≤ total ≤ 19 I + 18 A + D (RULES, "The bounds of a total")
 pub record Limits (rs : List SheetRecord) (n : ℕ) : Type 0 where
   pub least : instructions_in rs + accesses_in rs + idle_cycles_in rs ≤ n
   pub most : n ≤ 19 * instructions_in rs + 18 * accesses_in rs + idle_cycles_in rs
@@ -58,7 +58,7 @@ pub record Limits (rs : List SheetRecord) (n : ℕ) : Type 0 where
 unfoldable pub state_at : Lent → ℕ → State
 state_at i k = (run (media_of i) (first_state i) (take k (steps_of i.sheet))).state
 
--- answer k as demand 2's definitions have it: that of step k, in that state
+-- answer k as the definitions have it: that of step k, in that state
 unfoldable pub answer_at : Lent → ℕ → Answer
 answer_at i k = answer (media_of i) (state_at i k) (step_of (record_at i.sheet k))
 
@@ -91,14 +91,14 @@ pub record Accounts (i : Lent) (o : Outcome) : Type 0 where
   pub limits : Limits (records_of i.sheet) o.total
 
 -- the bytes of an answer that are compared: 4 to 7 (cycles), 9 (prefetch count) and 10 (force flag) of every step, 8 (hits) of
--- every step but WRITE (2) and BLOCK WRITE (11), whose hits are the bytes that landed (W-201, W-207)
+-- every step but WRITE (2) and BLOCK WRITE (11), whose hits are the bytes that landed
 pub record Compared (r : SheetRecord) (at : ℕ) : Type 0 where
   pub from : 4 ≤ at
   pub to : at ≤ 10
   pub but_landed : at ≡ 8 → r.kind ≢ 2
   pub but_block : at ≡ 8 → r.kind ≢ 11
 
--- what two accepted runs have whose sheets and first boards are alike
+-- what two accepted runs have whose sheets and first boards are alike (RULES, "What two runs have in common")
 pub record Demand3 (i j : Lent) (o p : Outcome) : Type 0 where
   pub columns : (k at : ℕ) → k < record_count i.sheet → Compared (record_at i.sheet k) at
       → byte_at o.answers (answer_start k + at) ≡ byte_at p.answers (answer_start k + at)

@@ -1,6 +1,6 @@
 -- A board as 80 bytes, when such bytes are sound, and an answer as 12.
--- From document 01, "Records (added)": "Board" is its word for the state that a run starts from and leaves; from byte 68 on,
--- document 02, W-204.
+-- From docs/RULES.md, "The board", "A sound board" and "The answer". A board is the state that a run starts from and leaves; its
+-- fields are the Rust's, but for the previous access, from byte 68 on.
 use Rattle.std.specs.Prelude.{Bool, false, not, ◌&&◌, ◌||◌, List, [], ◌∷◌, ◌++◌, ℕ, ◌+◌, ◌-◌, ◌*◌, ◌/◌, ◌%◌, length, replicate, eqb, leb}
 use Rattle.std.specs.Prelude.{if◌then◌else◌}
 use Rattle.model.specs.Base.{bit, same, byte_at, number, numbers_from, Field, field, encoded, numbers_bytes}
@@ -61,6 +61,7 @@ contents_of b =
       palette_write_count = number 8 b 60;
     }
 
+-- the board that 80 bytes are (RULES, "The board")
 abbrev pub board_of : List ℕ → Board
 board_of b = record { clock = clock_of b; halves = halves_from b 20 8; contents = contents_of b }
 
@@ -99,6 +100,7 @@ contents_fields d =
 abbrev pub previous_fields : Previous → List Field
 previous_fields p = field 4 p.addr ∷ field 1 p.size ∷ field 7 0 ∷ []
 
+-- its 80 bytes (RULES, "The board")
 unfoldable pub board_bytes : Board → List ℕ
 board_bytes b =
     encoded (clock_fields b.clock)
@@ -106,6 +108,7 @@ board_bytes b =
 
 -- ---- the board whose bytes are all zero
 
+-- the board that those bytes are (RULES, "The board")
 abbrev pub fresh_board : Board
 fresh_board =
     record {
@@ -141,12 +144,14 @@ is_zero p =
     eqb p.head 0 && eqb p.count 0 && not p.filling && not p.first_beat
     && eqb p.wait_left 0 && eqb p.next_addr 0 && eqb p.head_addr 0
 
+-- the bounds of its fields, and what the three above say (RULES, "A sound board")
 unfoldable pub sound_prefetch : PrefetchBuffer → Bool
 sound_prefetch p =
     leb p.head 7 && leb p.count 8 && leb p.wait_left 9 && eqb (p.next_addr % 2) 0
     && sound_beat p && sound_row p && (p.enabled || is_zero p)
 
 -- the previous data access: with size 0 its address is 0; otherwise its size is 1, 2 or 4, and its address a multiple of that
+-- (RULES, "A sound board")
 unfoldable pub sound_previous : Previous → Bool
 sound_previous p =
     if eqb p.size 0 then eqb p.addr 0
@@ -158,12 +163,14 @@ sound_bytes b =
     eqb (byte_at b 7) 0 && eqb (number 7 b 73) 0 && leb (byte_at b 2) 1 && leb (byte_at b 5) 1 && leb (byte_at b 6) 1
     && eqb (number 2 b 0 / 0x2000 % 2) 0
 
+-- the whole: 80 bytes, and each part of them sound (RULES, "A sound board")
 unfoldable pub sound : List ℕ → Bool
 sound b =
     eqb (length b) board_length && sound_bytes b && sound_prefetch (clock_of b).prefetch && sound_previous (previous (clock_of b))
 
 -- ---- answers
 
+-- the 12 bytes, field by field (RULES, "The answer")
 abbrev pub answer_fields : Answer → List Field
 answer_fields x =
     field 4 x.value

@@ -1,5 +1,5 @@
 -- Why a step costs what it does: the ground of each of its beats, what a run with grounds gives back, and what is claimed of it.
--- From document 02, W-206, and W-207, by which a block has the grounds of its words.
+-- From docs/RULES.md, "The ground of a beat" and "What a run with grounds is refused with".
 use Rattle.std.specs.Prelude.{◌≡◌, Bool, true, false, not, ◌&&◌, List, [], ◌∷◌, ◌++◌, map, ℕ, zero, suc, ◌+◌, ◌-◌, ◌*◌, ◌≤◌, ◌<◌, length, take, drop, replicate, eqb, ltb}
 use Rattle.std.specs.Prelude.{if◌then◌else◌}
 use Rattle.std.specs.Prelude.{Option, Some, None}
@@ -35,7 +35,7 @@ use Rattle.model.specs.declared.Step.TheVariants.{BlockRead, BlockWrite}
 
 -- ---- the nine grounds
 
--- document 02's name, in letters: hit, seq, flag, block, address, ewram, sram, video, fast
+-- its word, in letters: hit, seq, flag, block, address, ewram, sram, video, fast (RULES, "The ground of a beat")
 abbrev pub ground_name : Ground → List ℕ
 ground_name BufferHit = 0x68 ∷ 0x69 ∷ 0x74 ∷ []
 ground_name Sequential = 0x73 ∷ 0x65 ∷ 0x71 ∷ []
@@ -47,7 +47,7 @@ ground_name SramBus = 0x73 ∷ 0x72 ∷ 0x61 ∷ 0x6D ∷ []
 ground_name VideoBus = 0x76 ∷ 0x69 ∷ 0x64 ∷ 0x65 ∷ 0x6F ∷ []
 ground_name Fast = 0x66 ∷ 0x61 ∷ 0x73 ∷ 0x74 ∷ []
 
--- its byte in a lent buffer
+-- its byte in a lent buffer (RULES, "The ground of a beat")
 abbrev pub ground_byte : Ground → ℕ
 ground_byte BufferHit = 1
 ground_byte Sequential = 2
@@ -64,7 +64,7 @@ abbrev pub window_cycles : Waits → Option RomWindow → AccessKind → ℕ
 window_cycles t (Some win) k = rom_half_cycles t win k
 window_cycles t None k = 0
 
--- its cycles, under WAITCNT `w`, in the window `v`, of a beat in EWRAM of size `z`
+-- its cycles, under WAITCNT `w`, in the window `v`, of a beat in EWRAM of size `z` (RULES, "The ground of a beat")
 abbrev pub ground_cycles : ℕ → Option RomWindow → AccessSize → Ground → ℕ
 ground_cycles w v z BufferHit = 1
 ground_cycles w v z Sequential = window_cycles (rom_waits_of w) v Seq
@@ -79,6 +79,7 @@ ground_cycles w v z Fast = fixed_fast_cycles
 -- ---- the grounds of a fetch. `hits` tells of an address whether the buffer's head stands there
 
 -- a half from ROM: a hit comes before the block, which goes by the address as given, and the block before the flag
+-- (RULES, "The ground of a beat")
 unfoldable pub half_ground : (ℕ → Bool) → Bool → ℕ → Ground
 half_ground hits forced a =
     if hits a then BufferHit
@@ -115,6 +116,7 @@ kind_ground Nonseq = ByAddress
 kind_ground Seq = Sequential
 
 -- the first beat of an access to ROM at the lowered address `n`, after the access `p`: the block comes before the address
+-- (RULES, "The ground of a beat")
 unfoldable pub first_ground : Previous → ℕ → Ground
 first_ground p n = if force_nonseq n then ByBlock else kind_ground (kind_after p n)
 
@@ -126,6 +128,7 @@ data_grounds_on z first (OnRom win) = wide z first Sequential
 data_grounds_on z first OnSram = SramBus ∷ []
 data_grounds_on z first OnFast = Fast ∷ []
 
+-- by the region of the address (RULES, "The ground of a beat")
 unfoldable pub data_grounds : Previous → AccessSize → ℕ → List Ground
 data_grounds p z a = data_grounds_on z (first_ground p (aligned z a)) (bus_kind (decode a))
 
@@ -150,6 +153,7 @@ grounds_by hits forced p (Latch v) = []
 grounds_by hits forced p (BlockRead a n) = block_grounds p a n
 grounds_by hits forced p (BlockWrite a n) = block_grounds p a n
 
+-- in order, one a beat (RULES, "The ground of a beat")
 abbrev pub grounds : Clock → Step → List Ground
 grounds c x = grounds_by (hit c.prefetch) c.force_next_fetch_n (previous c) x
 
@@ -290,6 +294,7 @@ block_condition p a (suc n) j g =
     let behind = block_condition (access_of Word a) (further 4 a) n (j - beats) g in
     if ltb j beats then data_condition p Word a j g else behind
 
+-- whether `g` decides beat `j` of a step (RULES, "The ground of a beat")
 abbrev pub condition : Clock → Step → ℕ → Ground → Bool
 condition c (Read z a) j g = data_condition (previous c) z a j g
 condition c (Write z a v) j g = data_condition (previous c) z a j g
@@ -347,7 +352,7 @@ pub record Explained : Type 0 where
   pub run : Outcome
   pub grounds : List ℕ
 
--- the run's table, with room for the grounds
+-- the run's table, with room for the grounds (RULES, "What a run with grounds is refused with")
 abbrev pub grounds_rows : Explaining → List Row
 grounds_rows e = second_rows e.run grounds_length (length e.grounds)
 
@@ -367,6 +372,7 @@ grounds_for e Accepted = grounds_bytes (run_grounds e.run) ++ drop (grounds_leng
 abbrev pub explain_by : Explaining → Verdict → Explained
 explain_by e v = record { run = outcome_by e.run v; grounds = grounds_for e v }
 
+-- all that a call gives and leaves (RULES, "What a run with grounds is refused with")
 unfoldable pub explain : Explaining → Explained
 explain e = explain_by e (grounds_verdict e)
 
@@ -410,7 +416,8 @@ pub record Explains (e : Explaining) (x : Explained) : Type 0 where
   pub beyond : drop (grounds_start (record_count e.run.sheet)) x.grounds
       ≡ drop (grounds_start (record_count e.run.sheet)) e.grounds
 
--- what two accepted runs have whose sheets and first boards are alike: demand 3, and the same grounds
+-- what two accepted runs have whose sheets and first boards are alike: the same grounds, and what `Demand3` says
+-- (RULES, "What two runs have in common")
 pub record SameGrounds (e f : Explaining) (x y : Explained) : Type 0 where
   pub times : Demand3 e.run f.run x.run y.run
   pub same_grounds : (j : ℕ) → j < grounds_start (record_count e.run.sheet) → byte_at x.grounds j ≡ byte_at y.grounds j

@@ -1,5 +1,5 @@
 -- The seven memories of the lent store, and the memory that an address meets.
--- From GBATEK, "GBA Memory Map"; src/bus/mod.rs (`Bus`); document 01, "Memories".
+-- From GBATEK, "GBA Memory Map"; src/bus/mod.rs (`Bus`); docs/RULES.md, "What is lent" and "The map".
 use Rattle.std.specs.Prelude.{Bool, true, false, List, ℕ, ◌+◌, ltb}
 use Rattle.std.specs.Prelude.{if◌then◌else◌}
 use Rattle.std.specs.Prelude.{Option, Some, None}
@@ -15,7 +15,7 @@ use Rattle.model.specs.declared.VideoMemory.TheVariants.{PaletteRam, VideoRam, O
 use Rattle.model.specs.declared.Target.{Target}
 use Rattle.model.specs.declared.Target.TheVariants.{Unused, SystemRom, GamePakRom, Plain, Video, Sram}
 
--- ---- the seven memories are parts of the lent store, one after the other
+-- ---- the seven memories are parts of the lent store, one after the other (RULES, "What is lent")
 
 -- the part of `n` bytes that follows another
 abbrev pub after : Part → ℕ → Part
@@ -42,7 +42,7 @@ oam_part l = after (vram_part l) l.oam
 abbrev pub sram_part : Lengths → Part
 sram_part l = after (oam_part l) l.sram
 
--- the seven lengths added up
+-- the seven lengths added up (RULES, "What is lent")
 abbrev pub lengths_sum : Lengths → ℕ
 lengths_sum l = (sram_part l).base + l.sram
 
@@ -76,6 +76,7 @@ target_in l a GamePakRomWs2 = GamePakRom
 target_in l a GamePakSram = Sram (sram_part l) (sram_offset a)
 target_in l a UnusedHigh = Unused
 
+-- by the region of the address (RULES, "The map")
 unfoldable pub target : Lengths → ℕ → Target
 target l a = target_in l a (decode a)
 

@@ -1,5 +1,5 @@
 -- What the run gives back, and what it leaves: one function of all that is lent.
--- From document 01, "What the run gives back", and document 02, W-207, by which the version may be 2.
+-- From docs/RULES.md, "What is lent", "How a run goes" and "What a run is refused with".
 use Rattle.std.specs.Prelude.{Bool, not, ◌&&◌, ◌||◌, List, [], ◌∷◌, ◌++◌, ℕ, ◌*◌, length, drop, eqb, ltb, leb}
 use Rattle.std.specs.Prelude.{if◌then◌else◌}
 use Rattle.model.specs.Base.{AllBytes}
@@ -56,7 +56,7 @@ row holds r = record { holds = holds; refusal = r }
 abbrev pub by_row : Row → Verdict → Verdict
 by_row r v = if r.holds then Refused r.refusal else v
 
--- the first row that holds
+-- the first row that holds (RULES, "What a run is refused with")
 abbrev pub first_row : List Row → Verdict
 first_row [] = Accepted
 first_row (r ∷ rs) = by_row r (first_row rs)
@@ -74,7 +74,7 @@ sheet_rows_of latest s =
 abbrev pub sheet_rows : List ℕ → List Row
 sheet_rows s = sheet_rows_of latest_version s
 
--- no memory is longer than its physical size, and the seven add up to the store
+-- no memory is longer than its physical size, and the seven add up to the store (RULES, "What is lent")
 unfoldable pub sizes_fit : Lengths → ℕ → ℕ → ℕ → Bool
 sizes_fit l store bios rom =
     leb bios bios_size && leb rom rom_size && leb l.ewram ewram_size && leb l.iwram iwram_size && leb l.io io_size
@@ -108,7 +108,7 @@ lent_rows i =
     ++ (lengths_rows i.lengths (length i.store) (length i.bios) (length i.rom)
     ++ board_rows i.board)
 
--- in the table's order
+-- in the table's order (RULES, "What a run is refused with")
 abbrev pub rows : Lent → List Row
 rows i = lent_rows i ++ (answers_rows (record_count i.sheet) (length i.answers) ++ records_rows i.sheet)
 
@@ -120,7 +120,7 @@ second_rows i each second =
 unfoldable pub verdict : Lent → Verdict
 verdict i = first_row (rows i)
 
--- the documents' number of a refusal, and its index
+-- the table's number of a refusal, and its index
 abbrev pub refusal_number : Refusal → ℕ
 refusal_number BadMark = 1
 refusal_number BadVersion = 2
@@ -182,5 +182,6 @@ outcome_of i done Accepted =
 abbrev pub outcome_by : Lent → Verdict → Outcome
 outcome_by i v = outcome_of i (ran i) v
 
+-- all that a call gives and leaves (RULES, "How a run goes", "What a run is refused with" and "What a contract may quote")
 unfoldable pub outcome : Lent → Outcome
 outcome i = outcome_by i (verdict i)

@@ -1,6 +1,7 @@
 -- The Game Pak prefetch buffer, one idle cycle at a time. Nothing here depends on what the ROM holds but the halfwords
 -- (`filled`).
--- From GBATEK, "GBA GamePak Prefetch"; src/bus/prefetch.rs; document 01, "prefetch.rs".
+-- From GBATEK, "GBA GamePak Prefetch"; src/bus/prefetch.rs; docs/RULES.md, "WAITCNT", "Restart",
+-- "Idle cycles" and "Fetch".
 use Rattle.std.specs.Prelude.{Bool, true, false, not, ◌&&◌, List, ℕ, zero, suc, ◌+◌, ◌-◌, ◌%◌, set, eqb, ltb, leb}
 use Rattle.std.specs.Prelude.{if◌then◌else◌}
 use Rattle.std.specs.Prelude.{Option, Some, None}
@@ -35,7 +36,7 @@ new_buffer = emptied false
 abbrev pub drained : PrefetchBuffer → PrefetchBuffer
 drained p = emptied p.enabled
 
--- the switch, WAITCNT bit 14: to turn it off drains
+-- the switch, WAITCNT bit 14: to turn it off drains (RULES, "WAITCNT")
 unfoldable pub set_enabled : Bool → PrefetchBuffer → PrefetchBuffer
 set_enabled true p =
     record {
@@ -67,6 +68,7 @@ restart_in t p a (Some win) =
     }
 restart_in t p a None = drained p
 
+-- with the switch off it only drains (RULES, "Restart")
 unfoldable pub restart : Waits → PrefetchBuffer → ℕ → PrefetchBuffer
 restart t p a = if p.enabled then restart_in t p a (window a) else drained p
 
@@ -97,6 +99,7 @@ beat_in t p None =
       first_beat = p.first_beat;
     }
 
+-- by the window of the next address (RULES, "Restart")
 unfoldable pub start_beat : Waits → PrefetchBuffer → PrefetchBuffer
 start_beat t p = beat_in t p (window p.next_addr)
 
@@ -138,7 +141,7 @@ advance t p = if leb p.wait_left 1 then ended t p else with_wait (p.wait_left - 
 
 -- ---- idle cycles of the cartridge bus
 
--- with no beat in flight, room in the buffer and a window to fetch from, a beat starts
+-- with no beat in flight, room in the buffer and a window to fetch from, a beat starts (RULES, "Idle cycles")
 unfoldable pub ready : Waits → PrefetchBuffer → PrefetchBuffer
 ready t p = if not p.filling && ltb p.count capacity && in_window p.next_addr then start_beat t p else p
 
@@ -146,7 +149,7 @@ ready t p = if not p.filling && ltb p.count capacity && in_window p.next_addr th
 unfoldable pub tick1 : Waits → PrefetchBuffer → PrefetchBuffer
 tick1 t p = if p.enabled && (ready t p).filling then advance t (ready t p) else p
 
--- n idle cycles
+-- n idle cycles (RULES, "Idle cycles")
 unfoldable pub ticks : Waits → ℕ → PrefetchBuffer → PrefetchBuffer
 ticks t zero p = p
 ticks t (suc n) p = ticks t n (tick1 t p)
@@ -158,7 +161,7 @@ arrives t p = p.enabled && (ready t p).filling && leb (ready t p).wait_left 1
 abbrev pub slot : PrefetchBuffer → ℕ
 slot p = (p.head + p.count) % capacity
 
--- the eight halfwords after n idle cycles; `read` is the bus's halfword load
+-- the eight halfwords after n idle cycles; `read` is the bus's halfword load (RULES, "Idle cycles")
 unfoldable pub filled : (ℕ → ℕ) → Waits → ℕ → PrefetchBuffer → List ℕ → List ℕ
 filled read t zero p h = h
 filled read t (suc n) p h = filled read t n (tick1 t p) (if arrives t p then set h (slot p) (read p.next_addr) else h)
@@ -169,7 +172,7 @@ filled read t (suc n) p h = filled read t n (tick1 t p) (if arrives t p then set
 unfoldable pub occupied : PrefetchBuffer → Bool
 occupied p = p.enabled && not (eqb p.count 0)
 
--- the halfword at an address is the head of the buffer
+-- the halfword at an address is the head of the buffer (RULES, "Fetch")
 unfoldable pub hit : PrefetchBuffer → ℕ → Bool
 hit p a = occupied p && eqb (lowered 2 a) p.head_addr
 
@@ -187,6 +190,6 @@ taken p =
       first_beat = p.first_beat;
     }
 
--- a fetch elsewhere drains, but not when the buffer is off or empty
+-- a fetch elsewhere drains, but not when the buffer is off or empty (RULES, "Fetch")
 unfoldable pub fetched : PrefetchBuffer → ℕ → PrefetchBuffer
 fetched p a = if hit p a then taken p else if occupied p then drained p else p

@@ -1,5 +1,5 @@
 -- Price before running: the answers that the clock tells without memories, what a preview gives back, and what is claimed of it.
--- From document 02, W-205 and W-207.
+-- From docs/RULES.md, "What a preview gives" and "What a preview is refused with".
 use Rattle.std.specs.Prelude.{◌≡◌, ◌≢◌, ◌||◌, List, [], ◌∷◌, ◌++◌, ℕ, ◌*◌, length, take, drop, set, eqb}
 use Rattle.std.specs.Prelude.{if◌then◌else◌}
 use Rattle.model.specs.Base.{bytes, sum}
@@ -46,7 +46,7 @@ foretold c x =
       force = (clock_after c x).force_next_fetch_n;
     }
 
--- each step gets the clock that the step before left
+-- each step gets the clock that the step before left (RULES, "What a preview gives")
 unfoldable pub previewed : Clock → List Step → List Answer
 previewed c [] = []
 previewed c (x ∷ xs) = foretold c x ∷ previewed (clock_after c x) xs
@@ -68,7 +68,7 @@ pub record Previewed : Type 0 where
   pub board : List ℕ
   pub answers : List ℕ
 
--- the run's table without the row of the lengths, 4
+-- the run's table without the row of the lengths, 4 (RULES, "What a preview is refused with")
 abbrev pub preview_rows : Asked → List Row
 preview_rows q =
     sheet_rows q.sheet
@@ -94,6 +94,8 @@ preview_by q Accepted =
     giving q 0 (record_count q.sheet) (sum (cycles_in (preview_answers q)))
     (answers_bytes (preview_answers q) ++ drop (answer_length * record_count q.sheet) q.answers)
 
+-- all that a call gives and leaves
+-- (RULES, "What a preview gives", "What a preview is refused with" and "What a contract may quote")
 unfoldable pub preview : Asked → Previewed
 preview q = preview_by q (preview_verdict q)
 
@@ -151,7 +153,7 @@ pub record SomeRun (q : Asked) : Type 0 where
   pub memories : Memories
   pub accepted : (outcome (lent_with q memories)).number ≡ 0
 
--- the customer's sentence
+-- a preview is that run, whatever the memories are (RULES, "What a preview gives")
 pub record AsRun (q : Asked) (p : Previewed) : Type 0 where
   -- for all memories but those whose lengths the run refuses (4), so for all that it accepts: the run's outcome, with the zeros
   pub same : (m : Memories) → (outcome (lent_with q m)).number ≢ 4 → p ≡ with_zeros q (outcome (lent_with q m))

@@ -1,5 +1,5 @@
 -- What a data access costs: it is a list of beats, and its price is their sum.
--- From document 01, "Data price (added)", and document 02, W-204 and W-207, with GBATEK's access times.
+-- From GBATEK, "GBA Memory Map" (access times); docs/RULES.md, "What a data access costs", "Sequential accesses" and "Blocks".
 use Rattle.std.specs.Prelude.{List, [], ◌∷◌, map, ℕ, zero, suc, ◌+◌, eqb}
 use Rattle.std.specs.Prelude.{if◌then◌else◌}
 use Rattle.model.specs.Base.{sum, further}
@@ -46,13 +46,13 @@ beat_cycles t FastBeat = fixed_fast_cycles
 abbrev pub price : Waits → List Beat → ℕ
 price t bs = sum (map (beat_cycles t) bs)
 
--- ---- the kind of a data access (W-204)
+-- ---- the kind of a data access
 
 -- the previous one: its address as lowered to a multiple of its size, and the size in bytes, 0 for none
 abbrev pub previously : ℕ → ℕ → Previous
 previously a z = record { addr = a; size = z }
 
--- that of a clock
+-- that of a clock (RULES, "Sequential accesses")
 abbrev pub previous : Clock → Previous
 previous c = c.previous
 
@@ -64,13 +64,13 @@ abbrev pub no_access : Previous
 no_access = previously 0 0
 
 -- the kind of an access at the lowered address `n`, from the previous one; with none before it, nonsequential. Departure: the
--- data sheet has it by the opcode, sequential within an LDM or STM and nowhere else
+-- data sheet has it by the opcode, sequential within an LDM or STM and nowhere else (RULES, "Sequential accesses")
 unfoldable pub kind_after : Previous → ℕ → AccessKind
 kind_after p n =
     if eqb p.size 0 then Nonseq
     else classify_access p.addr (access_size_of p.size) n (same_region (decode p.addr) (decode n))
 
--- that of the first beat of an access, if it lies in ROM
+-- that of the first beat of an access, if it lies in ROM (RULES, "Sequential accesses")
 abbrev pub first_kind_of : Previous → AccessSize → ℕ → AccessKind
 first_kind_of p z a = kind_at (aligned z a) (kind_after p (aligned z a))
 
@@ -121,22 +121,22 @@ data_beats_on sram z k OnFast = FastBeat ∷ []
 abbrev pub data_beats_in : ℕ → AccessSize → AccessKind → Region → List Beat
 data_beats_in sram z k r = data_beats_on sram z k (bus_kind r)
 
--- under WAITCNT `w`, after the access `p`
+-- under WAITCNT `w`, after the access `p` (RULES, "What a data access costs")
 unfoldable pub data_beats : ℕ → Previous → AccessSize → ℕ → List Beat
 data_beats w p z a = data_beats_in (sram_waits w) z (first_kind_of p z a) (decode a)
 
--- the cycles of an access of size `z` at address `a` under WAITCNT `w`, after the access `p`
+-- the cycles of an access of size `z` at address `a` under WAITCNT `w`, after the access `p` (RULES, "What a data access costs")
 abbrev pub data_cycles : ℕ → Previous → AccessSize → ℕ → ℕ
 data_cycles w p z a = price (rom_waits_of w) (data_beats w p z a)
 
--- ---- a block (W-207): n word accesses at rising addresses, from `a` on, modulo 2^32
+-- ---- a block: n word accesses at rising addresses, from `a` on, modulo 2^32
 
--- its cycles, after the access `p`: each word's, after the one before it
+-- its cycles, after the access `p`: each word's, after the one before it (RULES, "Blocks")
 abbrev pub block_cycles_of : ℕ → Previous → ℕ → ℕ → ℕ
 block_cycles_of w p a zero = 0
 block_cycles_of w p a (suc n) = data_cycles w p Word a + block_cycles_of w (access_of Word a) (further 4 a) n
 
--- behind it its last word is the previous access
+-- behind it its last word is the previous access (RULES, "Blocks")
 abbrev pub block_previous : Previous → ℕ → ℕ → Previous
 block_previous p a zero = p
 block_previous p a (suc n) = block_previous (access_of Word a) (further 4 a) n

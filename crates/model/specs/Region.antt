@@ -1,5 +1,5 @@
 -- The memory map: 13 regions, the bus width and the physical size of each.
--- From GBATEK, "GBA Memory Map"; src/bus/region.rs; document 01, "region.rs".
+-- From GBATEK, "GBA Memory Map"; src/bus/region.rs; docs/RULES.md, "What is lent" and "The map".
 use Rattle.std.specs.Prelude.{Bool, true, false, ℕ, ◌/◌, eqb, ltb}
 use Rattle.std.specs.Prelude.{if◌then◌else◌}
 use Rattle.std.specs.Prelude.{Option, Some, None}
@@ -9,7 +9,7 @@ use Rattle.model.specs.declared.Region.TheVariants.{GamePakRomWs0, GamePakRomWs1
 use Rattle.model.specs.declared.BusWidth.{BusWidth}
 use Rattle.model.specs.declared.BusWidth.TheVariants.{Bits8, Bits16, Bits32}
 
--- ---- physical sizes
+-- ---- physical sizes (RULES, "What is lent")
 
 abbrev pub bios_size : ℕ
 bios_size = 0x4000
@@ -63,6 +63,7 @@ region_at p a =
     else if ltb p 0x10 then GamePakSram
     else UnusedHigh
 
+-- the region of an address (RULES, "The map")
 unfoldable pub decode : ℕ → Region
 decode a = region_at (page a) a
 
@@ -87,6 +88,7 @@ same_region r s = eqb (region_number r) (region_number s)
 
 -- ---- what a region has
 
+-- the bits of its bus (RULES, "The map")
 abbrev pub bus_width : Region → Option BusWidth
 bus_width Bios = Some Bits32
 bus_width UnusedLow = None
@@ -102,6 +104,7 @@ bus_width GamePakRomWs2 = Some Bits16
 bus_width GamePakSram = Some Bits8
 bus_width UnusedHigh = None
 
+-- the most bytes of its memory (RULES, "The map")
 abbrev pub physical_size : Region → Option ℕ
 physical_size Bios = Some bios_size
 physical_size UnusedLow = None

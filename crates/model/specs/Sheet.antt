@@ -1,5 +1,5 @@
 -- A sheet: its header and its records, as bytes; the steps that they stand for; and the faults of a record.
--- From document 01, "Records (added)": "Sheet" is its word for the list of steps that a run is given; and document 02, W-207.
+-- From docs/RULES.md, "The sheet", "The kinds of record" and "The two versions". A sheet is the list of steps that a run does.
 use Rattle.std.specs.Prelude.{Bool, not, ◌&&◌, ◌||◌, List, [], ◌∷◌, map, ℕ, zero, suc, ◌+◌, ◌*◌, ◌%◌, min, max, length, eqb, leb}
 use Rattle.std.specs.Prelude.{if◌then◌else◌}
 use Rattle.model.specs.Base.{byte_at, number}
@@ -29,24 +29,27 @@ max_records = 4096
 abbrev pub latest_version : ℕ
 latest_version = 2
 
--- a reader knows the versions from 1 up to the latest of its time
+-- a reader knows the versions from 1 up to the latest of its time (RULES, "The two versions")
 abbrev pub knows : ℕ → ℕ → Bool
 knows latest v = leb 1 v && leb v latest
 
+-- it has a header, and the mark in front (RULES, "The sheet")
 abbrev pub is_marked : List ℕ → Bool
 is_marked s = leb header_length (length s) && eqb (byte_at s 0) 0x42 && eqb (byte_at s 1) 0x54 && eqb (byte_at s 2) 0x53
 
+-- the version that it says (RULES, "The sheet")
 abbrev pub version_of : List ℕ → ℕ
 version_of s = number 2 s 3
 
 -- the version by whose rules the sheet is read. One that is not known is refused, and by which it would be read is no matter
+-- (RULES, "The two versions")
 unfoldable pub rules_of : List ℕ → Version
 rules_of s = if eqb (version_of s) 2 then Two else One
 
 abbrev pub record_count : List ℕ → ℕ
 record_count s = number 2 s 6
 
--- byte 5 is zero, there are not too many records, and the sheet is as long as they are
+-- byte 5 is zero, there are not too many records, and the sheet is as long as they are (RULES, "The sheet")
 abbrev pub is_shaped : List ℕ → Bool
 is_shaped s =
     eqb (byte_at s 5) 0 && leb (record_count s) max_records && eqb (length s) (header_length + record_length * record_count s)
@@ -57,6 +60,7 @@ is_shaped s =
 abbrev pub record_start : ℕ → ℕ
 record_start k = header_length + record_length * k
 
+-- record k (RULES, "The sheet")
 unfoldable pub record_at : List ℕ → ℕ → SheetRecord
 record_at s k =
     record {
@@ -93,7 +97,7 @@ max_words = 16
 unfoldable pub words_of : ℕ → ℕ
 words_of value = max 1 (min value max_words)
 
--- a block starts at its address lowered to a multiple of 4
+-- a block starts at its address lowered to a multiple of 4 (RULES, "The kinds of record")
 unfoldable pub step_of : SheetRecord → Step
 step_of r =
     if eqb r.kind 1 then Read (access_size_of r.size) r.address
@@ -117,7 +121,7 @@ steps_of s = map step_of (records_of s)
 abbrev pub is_block : ℕ → Bool
 is_block kind = eqb kind 10 || eqb kind 11
 
--- the table's first two columns: kinds 1 to 9, in version 2 to 11, and the sizes of each
+-- the table's kinds, 1 to 9, in version 2 to 11; then the sizes of each (RULES, "The kinds of record" and "The two versions")
 abbrev pub last_kind : Version → ℕ
 last_kind One = 9
 last_kind Two = 11
@@ -129,10 +133,11 @@ size_fits kind size =
     else if is_block kind then eqb size 4
     else eqb size 0
 
+-- its kind isn't one of its version's, or its size not one of its kind's (RULES, "The kinds of record")
 unfoldable pub kind_fault : SheetRecord → Bool
 kind_fault r = not (leb 1 r.kind && leb r.kind (last_kind r.version) && size_fits r.kind r.size)
 
--- the table's last column: which fields a kind uses
+-- the table's column "what it uses": which fields a kind uses
 abbrev pub uses_flag : ℕ → Bool
 uses_flag kind = eqb kind 7
 
@@ -153,9 +158,11 @@ fields_fit r =
     && (not (eqb r.kind 3) || leb r.value 0xFFFF)
     && (not (is_block r.kind) || leb 1 r.value && leb r.value max_words)
 
+-- a field that its kind doesn't use isn't 0, or one that it uses is out of bounds (RULES, "The kinds of record")
 unfoldable pub field_fault : SheetRecord → Bool
 field_fault r = not (fields_fit r)
 
+-- one or the other (RULES, "The kinds of record")
 abbrev pub faulty : SheetRecord → Bool
 faulty r = kind_fault r || field_fault r
 

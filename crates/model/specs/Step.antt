@@ -1,8 +1,9 @@
 -- A step, and the run over a list of steps. A step is two records: what it does to time (`timed`), a function of the clock
 -- and the step alone, and what it does to the contents (`changed`), where the memories enter. No definition of time has a
 -- memory among its arguments.
--- From document 01, "Records (added)", "Kind 7 (added)", "Data price (added)", and document 02, W-204 and W-207; each step names
--- the Rust calls it stands for.
+-- From docs/RULES.md, "The kinds of record", whose table names the Rust's call that each step stands for; "WAITCNT", "Counters",
+-- "What an instruction does", "What a data access costs", "Sequential accesses", "Blocks", "The answer", "Did a store land" and
+-- "How a run goes".
 use Rattle.std.specs.Prelude.{Bool, ◌&&◌, List, [], ◌∷◌, ◌++◌, map, ℕ, zero, suc, ◌+◌, length, get_or}
 use Rattle.std.specs.Prelude.{if◌then◌else◌}
 use Rattle.std.specs.Prelude.{Option, Some, None}
@@ -62,14 +63,16 @@ with_previous c p =
       previous = p;
     }
 
--- every data access is the previous one of the next; what fetches opcodes or sets the waits clears it (W-204)
+-- every data access is the previous one of the next; what fetches opcodes or sets the waits clears it
+-- (RULES, "Sequential accesses")
 abbrev pub accessed : Clock → AccessSize → ℕ → Clock
 accessed c z a = with_previous c (access_of z a)
 
+-- the clock without one (RULES, "Sequential accesses")
 abbrev pub cleared : Clock → Clock
 cleared c = with_previous c no_access
 
--- `write`, then `apply_waitcnt`
+-- `write`, then `apply_waitcnt` (RULES, "WAITCNT")
 unfoldable pub set_waitcnt : Clock → ℕ → Clock
 set_waitcnt c v =
     record {
@@ -164,11 +167,12 @@ timing c idle cycles hits = record { clock = c; idle = idle; cycles = cycles; hi
 abbrev pub access_timed : Clock → AccessSize → ℕ → Timed
 access_timed c z a = timing (accessed c z a) 0 (data_cycles c.waitcnt (previous c) z a) 0
 
--- so many words, whether they are read or written (W-207)
+-- so many words, whether they are read or written
 abbrev pub block_timed : Clock → ℕ → ℕ → Timed
 block_timed c a n =
     timing (with_previous c (block_previous (previous c) a n)) 0 (block_cycles_of c.waitcnt (previous c) a n) 0
 
+-- what each step does to time (RULES, "What an instruction does" and "What a data access costs")
 abbrev pub timed : Clock → Step → Timed
 timed c (Read z a) = access_timed c z a
 timed c (Write z a v) = access_timed c z a
@@ -243,7 +247,7 @@ counted_at (Plain p i) n d = d
 counted_at (Video m p i) n d = counted_in m n d
 counted_at (Sram p i) n d = d
 
--- a store counts as many as `video_count` says, in the display mode of its moment
+-- a store counts as many as `video_count` says, in the display mode of its moment (RULES, "Counters")
 unfoldable pub count_store : Lengths → List ℕ → Contents → AccessSize → ℕ → Contents
 count_store l s d z a = counted_at (target l a) (video_count (mode_of l s) z (target l a)) d
 
@@ -286,7 +290,7 @@ answering s v = change v s.board.contents []
 abbrev pub stores : Lengths → Contents → List ℕ → AccessSize → ℕ → ℕ → Changed
 stores l d s z a v = change 0 (count_store l s d z a) (puts l (mode_of l s) z a v)
 
--- a BLOCK WRITE (W-207) stores 0 in each of n words, from the address `a` on, modulo 2^32
+-- a BLOCK WRITE stores 0 in each of n words, from the address `a` on, modulo 2^32 (RULES, "Blocks")
 abbrev pub block_stores : Lengths → Contents → List ℕ → ℕ → ℕ → Changed
 block_stores l d s a zero = change 0 d []
 block_stores l d s a (suc n) =
@@ -294,6 +298,7 @@ block_stores l d s a (suc n) =
     let rest = block_stores l word.contents (landed s word.puts) (further 4 a) n in
     change 0 rest.contents (word.puts ++ rest.puts)
 
+-- what each step does to the contents (RULES, "What an instruction does")
 abbrev pub changed : Media → State → Step → Changed
 changed m s (Read z a) = answering s (load m.lengths (bus_of m s) z a)
 changed m s (Write z a v) = stores m.lengths s.board.contents s.store z a v
@@ -325,12 +330,13 @@ joined m s t d =
 abbrev pub stepped : Media → State → Step → State
 stepped m s x = joined m s (timed s.board.clock x) (changed m s x)
 
--- the hits byte (W-201): the halfwords that the step takes from the buffer, or the bytes of its store that land. A step that
--- stores takes none from the buffer, and one that takes some stores nothing, so the sum is the one or the other.
+-- the hits byte: the halfwords that the step takes from the buffer, or the bytes of its store that land. A step that
+-- stores takes none from the buffer, and one that takes some stores nothing, so the sum is the one or the other
+-- (RULES, "The answer" and "Did a store land").
 abbrev pub hits_of : Timed → Changed → ℕ
 hits_of t d = t.hits + length d.puts
 
--- the prefetch count and the force flag are those after the step
+-- the prefetch count and the force flag are those after the step (RULES, "The answer")
 abbrev pub answer_of : Timed → Changed → Answer
 answer_of t d =
     record {
@@ -349,19 +355,20 @@ pub record Result : Type 0 where
   pub answers : List Answer
   pub state : State
 
--- each step gets the board and the store that the step before left
+-- each step gets the board and the store that the step before left (RULES, "How a run goes")
 unfoldable pub run : Media → State → List Step → Result
 run m s [] = record { answers = []; state = s }
 run m s (x ∷ xs) =
     let r = run m (stepped m s x) xs in
     record { answers = answer m s x ∷ r.answers; state = r.state }
 
--- the cycles of each step, and the total, which is their sum
+-- the cycles of each step
 abbrev pub cycles_in : List Answer → List ℕ
 cycles_in xs = map (λ (x : Answer). x.cycles) xs
 
 abbrev pub cycles_of : Result → List ℕ
 cycles_of r = cycles_in r.answers
 
+-- their sum (RULES, "How a run goes")
 abbrev pub total : Result → ℕ
 total r = sum (cycles_of r)

@@ -1,6 +1,7 @@
 -- Stores of 1, 2 and 4 bytes: the bytes that land in the lent store, in order, and the video halfwords that are counted. How
--- many bytes land is the length of their list, which a WRITE answers (W-201).
--- From GBATEK, "GBA Memory Map" and "GBA Unpredictable Things"; src/bus/mod.rs (`Bus as CpuMem`); document 01, "mod.rs".
+-- many bytes land is the length of their list, which a WRITE answers.
+-- From GBATEK, "GBA Memory Map" and "GBA Unpredictable Things"; src/bus/mod.rs (`Bus as CpuMem`); docs/RULES.md, "Stores" and
+-- "Counters".
 use Rattle.std.specs.Prelude.{Bool, List, [], ◌∷◌, ◌++◌, ℕ, zero, suc, ◌+◌, ◌-◌, ◌*◌, ◌/◌, ◌%◌, ◌^◌, min, set, ltb}
 use Rattle.std.specs.Prelude.{if◌then◌else◌}
 use Rattle.model.specs.Base.{bit, lowered, byte_of}
@@ -21,7 +22,7 @@ pub record Put : Type 0 where
   pub place : ℕ
   pub byte : ℕ
 
--- the store after they have landed
+-- the store after they have landed (RULES, "Stores")
 abbrev pub landed : List ℕ → List Put → List ℕ
 landed s [] = s
 landed s (p ∷ ps) = landed (set s p.place p.byte) ps
@@ -41,7 +42,7 @@ put_aligned p i n v = put_bytes p (lowered n i) n v
 
 -- ---- the bytes of a store that land, by the memory that it meets
 
--- the display mode at the moment of a store: I/O byte 0 modulo 8, 0 with no I/O
+-- the display mode at the moment of a store: I/O byte 0 modulo 8, 0 with no I/O (RULES, "Stores")
 unfoldable pub mode_of : Lengths → List ℕ → ℕ
 mode_of l s = byte_in s (io_part l) 0 % 8
 
@@ -61,6 +62,7 @@ puts_at mode z a v (Plain p i) = put_aligned p i (size_bytes_of z) v
 puts_at mode z a v (Video m p i) = video_puts (fills mode m i) z p i v
 puts_at mode z a v (Sram p i) = put p i (byte_of (a % size_bytes_of z) v)
 
+-- by the memory that the address meets (RULES, "Stores")
 unfoldable pub puts : Lengths → ℕ → AccessSize → ℕ → ℕ → List Put
 puts l mode z a v = puts_at mode z a v (target l a)
 
@@ -73,6 +75,7 @@ halfwords fill Byte = bit fill
 halfwords fill Half = 1
 halfwords fill Word = 2
 
+-- by the memory that a store meets (RULES, "Counters")
 abbrev pub video_count : ℕ → AccessSize → Target → ℕ
 video_count mode z Unused = 0
 video_count mode z SystemRom = 0
@@ -81,6 +84,6 @@ video_count mode z (Plain p i) = 0
 video_count mode z (Video m p i) = halfwords (fills mode m i) z
 video_count mode z (Sram p i) = 0
 
--- a counter stops at 2^64 - 1
+-- a counter stops at 2^64 - 1 (RULES, "Counters")
 abbrev pub counted : ℕ → ℕ → ℕ
 counted c k = min (c + k) (2 ^ 64 - 1)

@@ -1,6 +1,6 @@
 -- The contract's tariff: what cycles cost at a rate, each step's share of what a run costs, what a run under a tariff gives back,
 -- and what is claimed of it.
--- From document 02, W-202.
+-- From docs/RULES.md, "The charge and the shares" and "What a run under a tariff is refused with".
 use Rattle.std.specs.Prelude.{◌≡◌, ◌||◌, List, [], ◌∷◌, ◌++◌, ℕ, suc, ◌+◌, ◌-◌, ◌*◌, ◌/◌, ◌^◌, ◌≤◌, ◌<◌, length, drop, eqb, ltb}
 use Rattle.model.specs.Base.{sum, byte_at, number, numbers_from, numbers_bytes}
 use Rattle.model.specs.Step.{cycles_of, total}
@@ -24,7 +24,7 @@ max_rate = 1_000_000
 abbrev pub cost : ℕ → ℕ → ℕ
 cost rate cycles = cycles * rate + (rate_cycles - 1)
 
--- cycles × rate / 1,000,000 rounded up to the cent
+-- cycles × rate / 1,000,000 rounded up to the cent (RULES, "The charge and the shares")
 unfoldable pub charge : ℕ → ℕ → ℕ
 charge rate cycles = cost rate cycles / rate_cycles
 
@@ -37,7 +37,7 @@ abbrev pub shares_after : ℕ → ℕ → List ℕ → List ℕ
 shares_after rate before [] = []
 shares_after rate before (c ∷ cs) = (charge rate (before + c) - charge rate before) ∷ shares_after rate (before + c) cs
 
--- of steps with these cycles, from the first on
+-- of steps with these cycles, from the first on (RULES, "The charge and the shares")
 abbrev pub shares : ℕ → List ℕ → List ℕ
 shares rate cs = shares_after rate 0 cs
 
@@ -67,7 +67,7 @@ pub record Billed : Type 0 where
 abbrev pub rate_rows : ℕ → List Row
 rate_rows rate = row (eqb rate 0 || ltb max_rate rate) BadRate ∷ []
 
--- the run's table, with room for the shares, and one row more
+-- the run's table, with room for the shares, and one row more (RULES, "What a run under a tariff is refused with")
 abbrev pub tariff_rows : Tariffed → List Row
 tariff_rows t = second_rows t.run share_length (length t.shares) ++ rate_rows t.rate
 
@@ -88,6 +88,7 @@ shares_by t Accepted = shares_in t.shares t.rate (cycles_of (ran t.run)) (record
 abbrev pub bill_by : Tariffed → Verdict → Billed
 bill_by t v = record { run = outcome_by t.run v; charge = charge_by t v; shares = shares_by t v }
 
+-- all that a call gives and leaves (RULES, "What a run under a tariff is refused with" and "What a contract may quote")
 unfoldable pub bill : Tariffed → Billed
 bill t = bill_by t (tariff_verdict t)
 
@@ -123,7 +124,8 @@ pub record Bills (t : Tariffed) (b : Billed) : Type 0 where
   pub beyond : drop (share_length * record_count t.run.sheet) b.shares
       ≡ drop (share_length * record_count t.run.sheet) t.shares
 
--- what two accepted runs under one rate have whose sheets and first boards are alike: demand 3, and the same shares and charge
+-- what two accepted runs under one rate have whose sheets and first boards are alike: the same shares and charge, and
+-- what `Demand3` says (RULES, "What two runs have in common")
 pub record SameBill (t u : Tariffed) (a b : Billed) : Type 0 where
   pub times : Demand3 t.run u.run a.run b.run
   pub charges : a.charge ≡ b.charge

@@ -1,6 +1,7 @@
 -- The price of an instruction: its fetch, its internal cycle, the idle cycles it leaves the cartridge bus, and the
 -- disable-bug latch.
--- From GBATEK, "ARM CPU Instruction Cycle Times" and "GBA GamePak Prefetch"; src/cpu/timing.rs; document 01, "cpu/timing.rs".
+-- From GBATEK, "ARM CPU Instruction Cycle Times" and "GBA GamePak Prefetch"; src/cpu/timing.rs; docs/RULES.md,
+-- "The fetch of an opcode", "Internal cycles" and "What an instruction does".
 -- Departures: branches and stores have no extra or nonsequential fetch, and data cycles are steps of their own.
 use Rattle.std.specs.Prelude.{Bool, List, [], ◌∷◌, ℕ, ◌+◌, ◌%◌, eqb}
 use Rattle.std.specs.Prelude.{if◌then◌else◌}
@@ -24,8 +25,8 @@ use Rattle.model.specs.declared.IsaState.{IsaState}
 use Rattle.model.specs.declared.IsaState.TheVariants.{Arm, Thumb}
 use Rattle.model.specs.declared.Version.{Version}
 
--- whether an opcode is taken to have an internal cycle, by the test of a sheet's version (W-207); a Thumb opcode is the low 16
--- bits
+-- whether an opcode is taken to have an internal cycle, by the test of a sheet's version; a Thumb opcode is the low 16
+-- bits (RULES, "Internal cycles")
 abbrev pub internal : Version → IsaState → ℕ → Bool
 internal v Arm raw = arm_internal raw
 internal v Thumb raw = thumb_internal v (raw % 0x1_0000)
@@ -54,7 +55,7 @@ abbrev pub fetch_beats_in : PrefetchBuffer → ℕ → AccessKind → IsaState �
 fetch_beats_in p a k isa (Some win) = rom_beats p a win k isa
 fetch_beats_in p a k isa None = plain_beat a isa ∷ []
 
--- departure: a fetch is sequential unless the force flag is set, after a jump too
+-- departure: a fetch is sequential unless the force flag is set, after a jump too (RULES, "The fetch of an opcode")
 unfoldable pub fetch_beats : PrefetchBuffer → Bool → IsaState → ℕ → List Beat
 fetch_beats p force isa a = fetch_beats_in p a (nonseq_if force) isa (window a)
 
@@ -71,6 +72,7 @@ cart_idle_of t v isa a raw = idle_in t a isa (window a) + bit (internal v isa ra
 unfoldable pub disable_bug : Bool → Version → IsaState → ℕ → ℕ → Bool → Bool
 disable_bug on v isa a raw changed = force_next_fetch_nonseq on (in_window a) (internal v isa raw) changed
 
+-- the fetch and the internal cycle, and what they leave to the bus and to the next opcode (RULES, "What an instruction does")
 unfoldable pub price_insn : TimingInput → Waits → PrefetchBuffer → InsnCycles
 price_insn i t p =
     record {

@@ -1,5 +1,5 @@
 -- The verdict on what is lent: accepted, or why it is refused. It is std's `Result<(), Refusal>`, whose two variants have the
--- documents' words here.
+-- words of docs/RULES.md here.
 use Rattle.std.specs.Prelude.{Result, Ok, Err, ⊤}
 use Rattle.model.specs.declared.Refusal.{Refusal}
 

@@ -1,7 +1,7 @@
--- What a sheet meant before version 2 (W-207): the definitions of documents 01 and 02 for version 1, as they were when it was the
--- only one, down to a step's time and price. Each that W-207 edited stands here under its name with ₁; what it didn't edit is not
--- written twice. Of contracts only promises about version 1 cite them; proofs/Laws/VersionOne.antt has that a version 1 sheet
--- still means what they say.
+-- What a sheet meant before version 2 (docs/RULES.md, "The two versions"): the definitions of version 1, as they were when it was
+-- the only one, down to a step's time and price. Each that version 2 changed stands here under its name with ₁; what it left
+-- alone is not written twice. Of contracts only promises about version 1 cite them; proofs/Laws/VersionOne.antt has that a
+-- version 1 sheet still means what they say.
 use Rattle.std.specs.Prelude.{Bool, not, ◌&&◌, ◌||◌, List, [], ◌∷◌, ◌++◌, map, ℕ, zero, suc, ◌+◌, ◌*◌, ◌%◌, length, drop, eqb, ltb, leb}
 use Rattle.std.specs.Prelude.{if◌then◌else◌}
 use Rattle.model.specs.Base.{bit, byte_at, number}

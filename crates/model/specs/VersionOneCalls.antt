@@ -1,6 +1,6 @@
--- What the three other operations gave for a sheet before version 2 (W-207): the run under a tariff (W-202), the preview (W-205)
--- and the run with grounds (W-206), over the steps, the table and the run of VersionOne.antt. What W-207 didn't edit is not
--- written twice. Of contracts only promises about version 1 cite them;
+-- What the three other operations gave for a sheet before version 2 (docs/RULES.md, "The two versions"): the run under a tariff,
+-- the preview and the run with grounds, over the steps, the table and the run of VersionOne.antt. What version 2 left alone is
+-- not written twice. Of contracts only promises about version 1 cite them;
 -- proofs/Laws/VersionOneCalls.antt has that a version 1 sheet still means what they say.
 use Rattle.std.specs.Prelude.{Bool, List, [], ◌∷◌, ◌++◌, ℕ, ◌*◌, length, drop}
 use Rattle.model.specs.Base.{sum}

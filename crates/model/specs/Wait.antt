@@ -1,5 +1,6 @@
 -- Access kinds, ROM windows, and the cycles of one access.
--- From GBATEK, "GBA Memory Map" (access times) and "GBA System Control" (waitstates); src/bus/wait.rs; document 01, "wait.rs".
+-- From GBATEK, "GBA Memory Map" (access times) and "GBA System Control" (waitstates); src/bus/wait.rs; docs/RULES.md,
+-- "The cycles of a halfword from ROM" and "Sequential accesses".
 use Rattle.std.specs.Prelude.{Bool, true, false, not, ◌&&◌, [], ℕ, ◌+◌, ◌%◌, ◌^◌, get_or, eqb, ltb}
 use Rattle.std.specs.Prelude.{if◌then◌else◌}
 use Rattle.std.specs.Prelude.{Option, Some, None, is_some}
@@ -43,6 +44,7 @@ window_at p =
     else if ltb p 0x0E then Some Ws2
     else None
 
+-- the window of an address, if it lies in one (RULES, "The cycles of a halfword from ROM")
 unfoldable pub window : ℕ → Option RomWindow
 window a = window_at (page a)
 
@@ -62,10 +64,12 @@ nonseq_if false = Seq
 abbrev pub force_nonseq : ℕ → Bool
 force_nonseq a = eqb (a % 0x20000) 0
 
+-- the kind of a halfword at `a` that is of kind `k` elsewhere (RULES, "The cycles of a halfword from ROM")
 unfoldable pub kind_at : ℕ → AccessKind → AccessKind
 kind_at a k = if force_nonseq a then Nonseq else k
 
 -- an access that goes on where one of size `z` at `prev` ended, in the same region and not at such a multiple in ROM
+-- (RULES, "Sequential accesses")
 unfoldable pub classify_access : ℕ → AccessSize → ℕ → Bool → AccessKind
 classify_access prev z next same_region =
     if not same_region then Nonseq
@@ -91,10 +95,11 @@ cycles_for_waits n = 1 + n
 abbrev pub rom_half_waits : Waits → RomWindow → AccessKind → ℕ
 rom_half_waits t win k = get_or (get_or t (window_index win) []) (kind_index k) 0
 
+-- its cycles (RULES, "The cycles of a halfword from ROM")
 unfoldable pub rom_half_cycles : Waits → RomWindow → AccessKind → ℕ
 rom_half_cycles t win k = cycles_for_waits (rom_half_waits t win k)
 
--- the same, under the rule of 0x20000
+-- the same, under the rule of 0x20000 (RULES, "The cycles of a halfword from ROM")
 abbrev pub rom_half_cycles_at : Waits → ℕ → RomWindow → AccessKind → ℕ
 rom_half_cycles_at t a win k = rom_half_cycles t win (kind_at a k)
 

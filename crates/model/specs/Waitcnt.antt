@@ -1,5 +1,5 @@
 -- WAITCNT: what a write keeps, and the waits that its fields stand for.
--- From GBATEK, "GBA System Control" (4000204h, WAITCNT); src/bus/waitcnt.rs; document 01, "waitcnt.rs".
+-- From GBATEK, "GBA System Control" (4000204h, WAITCNT); src/bus/waitcnt.rs; docs/RULES.md, "WAITCNT".
 use Rattle.std.specs.Prelude.{Bool, List, [], ◌∷◌, ℕ, ◌+◌, ◌*◌, ◌/◌, ◌%◌, get_or, eqb}
 use Rattle.std.specs.Prelude.{if◌then◌else◌}
 use Rattle.model.specs.Base.{bit}
@@ -14,11 +14,11 @@ power_on = 0
 unfoldable pub from_u16 : ℕ → ℕ
 from_u16 v = v % 0x2000 + v / 0x4000 * 0x4000
 
--- a write keeps bits 0 to 12 and 14 of the value, clears bit 13, and leaves bit 15 of the register
+-- a write keeps bits 0 to 12 and 14 of the value, clears bit 13, and leaves bit 15 of the register (RULES, "WAITCNT")
 unfoldable pub written : ℕ → ℕ → ℕ
 written old v = v % 0x2000 + v / 0x4000 % 2 * 0x4000 + old / 0x8000 % 2 * 0x8000
 
--- bit 14: the prefetch switch
+-- bit 14: the prefetch switch (RULES, "WAITCNT")
 unfoldable pub prefetch_enable : ℕ → Bool
 prefetch_enable w = eqb (w / 0x4000 % 2) 1
 
@@ -43,7 +43,7 @@ n_waits bits = get_or (4 ∷ 3 ∷ 2 ∷ 8 ∷ []) (bits % 4) 0
 unfoldable pub s_waits : ℕ → ℕ → ℕ
 s_waits slow bits = if eqb (bits % 2) 1 then 1 else slow
 
--- SRAM: bits 0 and 1
+-- SRAM: bits 0 and 1 (RULES, "WAITCNT")
 abbrev pub sram_waits : ℕ → ℕ
 sram_waits w = n_waits w
 
@@ -62,6 +62,7 @@ window_swaits w Ws0 = s_waits 2 (w / 0x10)
 window_swaits w Ws1 = s_waits 4 (w / 0x80)
 window_swaits w Ws2 = s_waits 8 (w / 0x400)
 
+-- those that the register's value stands for (RULES, "WAITCNT")
 unfoldable pub rom_waits_of : ℕ → Waits
 rom_waits_of w =
     (window_nwaits w Ws0 ∷ window_swaits w Ws0 ∷ [])

@@ -1,5 +1,5 @@
 // The types that the machine's definitions (specs/) and every layer's code share. A type that ports one of the Rust's
-// keeps its name; the others are made for the scope document's added parts. No code that runs a sheet is here: only
+// keeps its name; the others are made for the rules that docs/RULES.md adds. No code that runs a sheet is here: only
 // functions of a type alone, its own fresh value and a part's range.
 #![tactic(auto)]
 
@@ -77,8 +77,8 @@ pub struct PrefetchBuffer {
 }
 
 impl PrefetchBuffer {
-    // The buffer of a fresh board: switched off and empty. A fresh state is a function, as document 01 has it, with what it is
-    // as its contract; a derived `Default` would be a second word for it.
+    // The buffer of a fresh board: switched off and empty. A fresh state is a function, with what it is as its
+    // contract; a derived `Default` would be a second word for it.
     pub fn new() -> PrefetchBuffer
         ensures { result ≡ new_buffer }
     {
@@ -105,7 +105,7 @@ pub enum IsaState {
 
 #[derive(Clone, Copy)]
 pub struct TimingInput {
-    // Added (W-207): by which version's test an internal cycle is looked for.
+    // Added: by which version's test an internal cycle is looked for.
     pub version: Version,
     pub isa: IsaState,
     pub code_addr: u32,
@@ -132,10 +132,10 @@ pub const RECORD_LENGTH: usize = 12;
 
 pub const ANSWER_LENGTH: usize = 12;
 
-// A step's share of the charge (W-202).
+// A step's share of the charge.
 pub const SHARE_LENGTH: usize = 8;
 
-// The grounds of a step, a byte a beat (W-206).
+// The grounds of a step, a byte a beat.
 pub const GROUNDS_LENGTH: usize = 32;
 
 pub const BOARD_LENGTH: usize = 80;
@@ -148,10 +148,10 @@ pub const FIRST_VERSION: u16 = 1;
 
 pub const LATEST_VERSION: u16 = 2;
 
-// The most words of a block (W-207).
+// The most words of a block.
 pub const MAX_WORDS: u32 = 16;
 
-// ---- added: the contract's tariff (W-202)
+// ---- added: the contract's tariff
 
 // A rate is in cents for this many cycles.
 pub const RATE_CYCLES: u64 = 1_000_000;
@@ -161,7 +161,7 @@ pub const MAX_RATE: u32 = 1_000_000;
 
 // ---- added: a step, and the state that a run carries
 
-// The version by whose rules a sheet is read (W-207). It decides which kinds there are and where Thumb's POP is looked for, and
+// The version by whose rules a sheet is read. It decides which kinds there are and where Thumb's POP is looked for, and
 // nothing else.
 #[derive(Clone, Copy)]
 pub enum Version {
@@ -199,7 +199,7 @@ pub enum Step {
     BlockWrite(u32, u32),
 }
 
-// The previous data access (W-204), as a board has it: its address as lowered to a multiple of its size, and the size in bytes, 0
+// The previous data access, as a board has it: its address as lowered to a multiple of its size, and the size in bytes, 0
 // for none. An `Option` of an access can't be proved: by the law `encode_formed` any board whose zero bytes and flags stand is
 // written back as it was read, also with a size of 3, or with an address beside 0. So soundness is no invariant of it, either.
 #[derive(Clone, Copy)]
@@ -343,9 +343,9 @@ pub enum Target {
     Sram(Part, usize),
 }
 
-// ---- added: why a step costs what it does (W-206)
+// ---- added: why a step costs what it does
 
-// What decides the price of a beat. specs/Grounds.antt has document 02's name of each, its byte in a lent buffer and its cycles.
+// What decides the price of a beat. specs/Grounds.antt has the word of each, its byte in a lent buffer and its cycles.
 #[derive(Clone, Copy)]
 pub enum Ground {
     BufferHit,
@@ -367,7 +367,7 @@ pub enum Ground {
 pub struct Answer {
     pub value: u32,
     pub cycles: u32,
-    // The halfwords taken from the buffer; of a WRITE or a BLOCK WRITE, the bytes that landed (W-201, W-207).
+    // The halfwords taken from the buffer; of a WRITE or a BLOCK WRITE, the bytes that landed.
     pub hits: u8,
     pub count: u8,
     pub force: bool,
@@ -376,7 +376,7 @@ pub struct Answer {
 // ---- added: what the run gives back
 
 // The refusals, in the order in which they are looked for; a faulty record's holds its index. The first seven are the run's,
-// the last is the tariff's (W-202).
+// the last is the tariff's.
 #[derive(Clone, Copy, Debug, PartialEq, Eq)]
 pub enum Refusal {
     BadMark,

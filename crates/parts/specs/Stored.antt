@@ -1,4 +1,4 @@
--- What a store reports, and the contract of every function that stores, from the leaf on (W-201).
+-- What a store reports, and the contract of every function that stores, from the leaf on.
 use Rattle.std.specs.Prelude.{◌≡◌, refl, List, [], ◌++◌, ℕ, ◌+◌, ◌^◌, ◌≤◌, ◌<◌, length, take, drop}
 use Rattle.std.proofs.Common.{sym, ap, ap₂, ◌∙◌, arith, length-append}
 use Rattle.model.specs.Store.{Put, landed}

@@ -1,5 +1,6 @@
 // Price before running: what is left to do to the answers of a run over no memories, so that they are a preview's. Only the
-// values of INSTRUCTION are told by the clock; every other one is set to 0. From document 02, W-205.
+// values of INSTRUCTION are told by the clock; every other one is set to 0. From docs/RULES.md,
+// "What a preview gives".
 #![tactic(auto)]
 
 ghost use Rattle.std.specs.Prelude.{◌≡◌, eqb, length};

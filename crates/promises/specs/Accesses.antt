@@ -1,4 +1,4 @@
--- What is promised of runs of data accesses (W-204): what an access costs, from the one before it. N and S are the cycles of a
+-- What is promised of runs of data accesses: what an access costs, from the one before it. N and S are the cycles of a
 -- nonsequential and of a sequential halfword in the window of the access.
 use Rattle.std.specs.Prelude.{◌≡◌, false, ℕ, ◌+◌, ◌*◌, ◌/◌}
 use Rattle.std.specs.Prelude.{Some}

@@ -1,4 +1,4 @@
--- What is promised of blocks (W-207): what a BLOCK WRITE's byte 8 tells, and that a block is its words.
+-- What is promised of blocks: what a BLOCK WRITE's byte 8 tells, and that a block is its words.
 use Rattle.std.specs.Prelude.{◌≡◌, true, List, ℕ, ◌≤◌, ◌<◌}
 use Rattle.model.specs.Base.{AllBytes}
 use Rattle.model.specs.Sheet.{version_of, record_at, record_count, records_of, is_block, step_of}

@@ -1,5 +1,5 @@
--- What is promised of a run with the grounds of its prices (W-206). The contract of `bts_run_grounds` says of a call that was
--- lent `e` and left `x` that `x ≡ explain e`; each statement here is of any such call.
+-- What is promised of a run with the grounds of its prices. The contract of `bts_run_grounds` says of a call that was lent `e`
+-- and left `x` that `x ≡ explain e`; each statement here is of any such call.
 use Rattle.std.specs.Prelude.{◌≡◌, ◌≢◌, ◌≤◌}
 use Rattle.model.specs.Base.{Exactly}
 use Rattle.model.specs.Sheet.{max_records}
@@ -27,7 +27,7 @@ ExplainAccepted = (e : Explaining) (x : Explained) → x ≡ explain e → Exact
 unfoldable pub ExplainedIndex : Type 0
 ExplainedIndex = (e : Explaining) (x : Explained) → x ≡ explain e → Index e.run.sheet x.run.number x.run.index
 
--- W-203: the record that 7 names, as a run's
+-- the record that 7 names is the lower of two, as a run's
 unfoldable pub ExplainedFirstOfTwo : Type 0
 ExplainedFirstOfTwo = (e : Explaining) (x : Explained) → x ≡ explain e → x.run.number ≡ 7 → LowerOfTwo e.run.sheet x.run.index
 
@@ -52,8 +52,8 @@ GroundsGiven = (e : Explaining) (x : Explained) → x ≡ explain e → x.run.nu
 unfoldable pub GroundBytes : Type 0
 GroundBytes = (g h : Ground) → (beat_ground (ground_byte g) ≡ Some g) × (ground_byte g ≡ ground_byte h → g ≡ h)
 
--- any two accepted runs with alike sheets and boards, whatever memories they are lent: the same grounds, and all that demand 3
--- says
+-- any two accepted runs with alike sheets and boards, whatever memories they are lent: the same grounds, and all else that
+-- two runs have in common
 unfoldable pub SameReasons : Type 0
 SameReasons =
     (e f : Explaining) (x y : Explained) → x ≡ explain e → y ≡ explain f → x.run.number ≡ 0 → y.run.number ≡ 0

@@ -1,4 +1,4 @@
--- What is promised of a preview (W-205). The contract of `bts_preview` says of a call that was lent `q` and left `p` that
+-- What is promised of a preview. The contract of `bts_preview` says of a call that was lent `q` and left `p` that
 -- `p ≡ preview q`; each statement here is of any such call.
 use Rattle.std.specs.Prelude.{◌≡◌, ◌≢◌, ◌≤◌}
 use Rattle.model.specs.Sheet.{max_records, records_of}
@@ -24,7 +24,7 @@ NoOtherPreviewed = (q : Asked) (p : Previewed) → p ≡ preview q → (p.number
 unfoldable pub PreviewedIndex : Type 0
 PreviewedIndex = (q : Asked) (p : Previewed) → p ≡ preview q → Index q.sheet p.number p.index
 
--- W-203: the record that 7 names, as a run's
+-- the record that 7 names is the lower of two, as a run's
 unfoldable pub PreviewedFirstOfTwo : Type 0
 PreviewedFirstOfTwo = (q : Asked) (p : Previewed) → p ≡ preview q → p.number ≡ 7 → LowerOfTwo q.sheet p.index
 
@@ -36,7 +36,7 @@ SmallPreviewedIndex = (q : Asked) (p : Previewed) → p ≡ preview q → p.inde
 unfoldable pub PreviewUnwritten : Type 0
 PreviewUnwritten = (q : Asked) (p : Previewed) → p ≡ preview q → Unwritten q p
 
--- an accepted one: demand 3's limits
+-- an accepted one's total lies within a run's limits
 unfoldable pub PreviewLimits : Type 0
 PreviewLimits = (q : Asked) (p : Previewed) → p ≡ preview q → p.number ≡ 0 → Limits (records_of q.sheet) p.total
 

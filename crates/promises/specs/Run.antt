@@ -20,7 +20,7 @@ use Rattle.model.specs.declared.VideoMemory.{VideoMemory}
 use Rattle.model.specs.declared.Target.TheVariants.{Video}
 use Rattle.model.specs.declared.Step.TheVariants.{Write}
 
--- ---- demand 1
+-- ---- total and safe: what it is refused with, and what it leaves
 
 -- each number from 1 to 7 exactly when its row of the table holds and no earlier one does, and 0 exactly when none does
 unfoldable pub EachNumber : Type 0
@@ -38,7 +38,7 @@ AcceptedExactly = (i : Lent) (o : Outcome) → o ≡ outcome i → Exactly (o.nu
 unfoldable pub IndexTold : Type 0
 IndexTold = (i : Lent) (o : Outcome) → o ≡ outcome i → Index i.sheet o.number o.index
 
--- W-203: the record that 7 names is the lower of two, the first with a fault of kind or size and the first with one of the other
+-- the record that 7 names is the lower of two, the first with a fault of kind or size and the first with one of the other
 -- fields
 unfoldable pub FirstOfTwo : Type 0
 FirstOfTwo = (i : Lent) (o : Outcome) → o ≡ outcome i → o.number ≡ 7 → LowerOfTwo i.sheet o.index
@@ -59,7 +59,7 @@ SoundLeft = (i : Lent) (o : Outcome) → o ≡ outcome i → LentBytes i → o.n
 unfoldable pub SmallTotal : Type 0
 SmallTotal = (i : Lent) (o : Outcome) → o ≡ outcome i → LentBytes i → o.number ≡ 0 → o.total ≤ max_records * 0xFFFF_FFFF
 
--- ---- demand 3
+-- ---- the same for every memory
 
 -- two sheets are alike: they agree in bytes 0 to 7 and, record by record, in kind, size, flag and address, and, but for WRITE (2)
 -- and LATCH (9), in value
@@ -127,13 +127,13 @@ pub record WithinLimits (s : List ℕ) (total : ℕ) : Type 0 where
 unfoldable pub TotalWithin : Type 0
 TotalWithin = (i : Lent) (o : Outcome) → o ≡ outcome i → o.number ≡ 0 → WithinLimits i.sheet o.total
 
--- the whole of demand 3, in the model's words: this of every byte that is compared, and what each run has by itself
+-- the whole of it, in the model's words: this of every byte that is compared, and what each run has by itself
 unfoldable pub WholeDemand3 : Type 0
 WholeDemand3 =
     (i j : Lent) (o p : Outcome) → o ≡ outcome i → p ≡ outcome j → o.number ≡ 0 → p.number ≡ 0
     → AlikeSheets i.sheet j.sheet → AlikeBoards i.board j.board → Demand3 i j o p
 
--- ---- whether a store landed (W-201)
+-- ---- whether a store landed
 
 -- byte 8 of a WRITE's answer is the number of memory bytes that its store wrote: each at a place of its own, which holds
 -- afterwards what was stored there, and no other byte changes

@@ -1,5 +1,5 @@
--- What is promised of a run under a tariff (W-202). The contract of `bts_run_tariff` says of a call that was lent `t` and left
--- `b` that `b ≡ bill t`; each statement here is of any such call.
+-- What is promised of a run under a tariff. The contract of `bts_run_tariff` says of a call that was lent `t` and left `b` that
+-- `b ≡ bill t`; each statement here is of any such call.
 use Rattle.std.specs.Prelude.{◌≡◌, ◌≢◌, ◌≤◌}
 use Rattle.model.specs.Base.{Exactly}
 use Rattle.model.specs.Sheet.{max_records}
@@ -30,7 +30,7 @@ RateRefused = (t : Tariffed) (b : Billed) → b ≡ bill t → Exactly (b.run.nu
 unfoldable pub BilledIndex : Type 0
 BilledIndex = (t : Tariffed) (b : Billed) → b ≡ bill t → Index t.run.sheet b.run.number b.run.index
 
--- W-203: the record that 7 names, as a run's
+-- the record that 7 names is the lower of two, as a run's
 unfoldable pub BilledFirstOfTwo : Type 0
 BilledFirstOfTwo = (t : Tariffed) (b : Billed) → b ≡ bill t → b.run.number ≡ 7 → LowerOfTwo t.run.sheet b.run.index
 
@@ -55,7 +55,7 @@ unfoldable pub BilledFairly : Type 0
 BilledFairly = (t : Tariffed) (b : Billed) → b ≡ bill t → b.run.number ≡ 0 → Bills t b
 
 -- any two accepted runs under one rate with alike sheets and boards, whatever memories they are lent: the same shares and charge,
--- and all that demand 3 says
+-- and all else that two runs have in common
 unfoldable pub SameBills : Type 0
 SameBills =
     (t u : Tariffed) (a b : Billed) → a ≡ bill t → b ≡ bill u → a.run.number ≡ 0 → b.run.number ≡ 0

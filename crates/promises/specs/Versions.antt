@@ -1,4 +1,4 @@
--- What is promised of the two versions of a sheet (W-207), of any call of each of the four functions.
+-- What is promised of the two versions of a sheet, of any call of each of the four functions.
 use Rattle.std.specs.Prelude.{◌≡◌, true, ℕ, suc, ◌<◌, eqb}
 use Rattle.model.specs.Sheet.{is_marked, version_of, isa_state, record_at, record_count}
 use Rattle.model.specs.VersionOne.{Instruction₁, stepped₁, answer₁, outcome₁}

@@ -14,7 +14,7 @@ ghost use Rattle.promises.specs.Figures as figures;
 
 // ---- a run, `bts_run`
 
-// ---- demand 1
+// ---- total and safe: what it is refused with, and what it leaves
 
 // Each number from 1 to 7 exactly when its row of the table holds and no earlier one does, and 0 exactly when none does.
 #[tactic(auto, using(crate::proofs::Run::table))]
@@ -40,7 +40,7 @@ pub fn index()
     ensures { run.IndexTold }
 {}
 
-// W-203: the record that 7 names is the lower of two, the first with a fault of kind or size and the first with one of the
+// The record that 7 names is the lower of two, the first with a fault of kind or size and the first with one of the
 // other fields.
 #[tactic(auto, using(crate::proofs::Run::first_of_two))]
 pub fn first_of_two()
@@ -71,7 +71,7 @@ pub fn small_total()
     ensures { run.SmallTotal }
 {}
 
-// ---- demand 3
+// ---- the same for every memory
 
 // In bytes and numbers alone: any two accepted runs whose sheets and first boards are alike, whatever memories they are lent,
 // agree in these figures.
@@ -92,13 +92,13 @@ pub fn total_within()
     ensures { run.TotalWithin }
 {}
 
-// The whole of demand 3, in the model's words: this of every byte that is compared, and what each run has by itself.
+// The whole of it, in the model's words: this of every byte that is compared, and what each run has by itself.
 #[tactic(auto, using(crate::proofs::Run::same_times))]
 pub fn same_times()
     ensures { run.WholeDemand3 }
 {}
 
-// ---- whether a store landed (W-201)
+// ---- whether a store landed
 
 // Byte 8 of a WRITE's answer is the number of memory bytes that its store wrote: each at a place of its own, which holds
 // afterwards what was stored there, and no other byte changes.
@@ -125,7 +125,7 @@ pub fn expanded_byte()
     ensures { run.ExpandedByte }
 {}
 
-// ---- a run under a tariff, `bts_run_tariff` (W-202)
+// ---- a run under a tariff, `bts_run_tariff`
 
 // Each number exactly when its row of the tariff's table holds and no earlier one does, and 0 exactly when none does.
 #[tactic(auto, using(crate::proofs::Tariff::tariff_table))]
@@ -157,7 +157,7 @@ pub fn tariff_index()
     ensures { tariff.BilledIndex }
 {}
 
-// W-203: the record that 7 names, as a run's.
+// The record that 7 names is the lower of two, as a run's.
 #[tactic(auto, using(crate::proofs::Tariff::tariff_first_of_two))]
 pub fn tariff_first_of_two()
     ensures { tariff.BilledFirstOfTwo }
@@ -195,13 +195,13 @@ pub fn bills()
 {}
 
 // Any two accepted runs under one rate with alike sheets and boards, whatever memories they are lent: the same shares and
-// charge, and all that demand 3 says.
+// charge, and all else that two runs have in common.
 #[tactic(auto, using(crate::proofs::Tariff::same_bills))]
 pub fn same_bills()
     ensures { tariff.SameBills }
 {}
 
-// ---- a preview, `bts_preview` (W-205)
+// ---- a preview, `bts_preview`
 
 // For all memories that the run accepts it is the run on a copy of the board, but for the named zeros, and it is accepted
 // exactly when the run with some memories is.
@@ -228,7 +228,7 @@ pub fn preview_index()
     ensures { preview.PreviewedIndex }
 {}
 
-// W-203: the record that 7 names, as a run's.
+// The record that 7 names is the lower of two, as a run's.
 #[tactic(auto, using(crate::proofs::Preview::preview_first_of_two))]
 pub fn preview_first_of_two()
     ensures { preview.PreviewedFirstOfTwo }
@@ -246,7 +246,7 @@ pub fn preview_leaves()
     ensures { preview.PreviewUnwritten }
 {}
 
-// An accepted one: demand 3's limits.
+// An accepted one's total lies within a run's limits.
 #[tactic(auto, using(crate::proofs::Preview::preview_limits))]
 pub fn preview_limits()
     ensures { preview.PreviewLimits }
@@ -258,7 +258,7 @@ pub fn same_previews()
     ensures { preview.SamePreviews }
 {}
 
-// ---- a run with the grounds of its prices, `bts_run_grounds` (W-206)
+// ---- a run with the grounds of its prices, `bts_run_grounds`
 
 // Each number exactly when its row of the table holds and no earlier one does, and 0 exactly when none does.
 #[tactic(auto, using(crate::proofs::Grounds::grounds_table))]
@@ -284,7 +284,7 @@ pub fn grounds_index()
     ensures { grounds.ExplainedIndex }
 {}
 
-// W-203: the record that 7 names, as a run's.
+// The record that 7 names is the lower of two, as a run's.
 #[tactic(auto, using(crate::proofs::Grounds::grounds_first_of_two))]
 pub fn grounds_first_of_two()
     ensures { grounds.ExplainedFirstOfTwo }
@@ -321,14 +321,14 @@ pub fn ground_bytes()
     ensures { grounds.GroundBytes }
 {}
 
-// Any two accepted runs with alike sheets and boards, whatever memories they are lent: the same grounds, and all that demand 3
-// says.
+// Any two accepted runs with alike sheets and boards, whatever memories they are lent: the same grounds, and all else
+// that two runs have in common.
 #[tactic(auto, using(crate::proofs::Grounds::same_grounds))]
 pub fn same_grounds()
     ensures { grounds.SameReasons }
 {}
 
-// ---- blocks (W-207)
+// ---- blocks
 
 // In a version 2 sheet a record of kind 10 or 11 is without fault exactly when its size is 4, flag and zero byte are 0 and its
 // value is 1 to 16; it then stands for as many words, from its address lowered to a multiple of 4 on.
@@ -381,7 +381,7 @@ pub fn dearest_block()
     ensures { blocks.DearestBlock }
 {}
 
-// ---- the two versions of a sheet (W-207)
+// ---- the two versions of a sheet
 
 // ---- every version but 1 and 2 is refused with 2
 
@@ -461,7 +461,7 @@ pub fn other_opcodes()
     ensures { versions.OtherOpcodes }
 {}
 
-// ---- runs of data accesses (W-204)
+// ---- runs of data accesses
 
 // Without a previous access every price is that of a first beat taken as nonsequential: in ROM N, of a word N + S.
 #[tactic(auto, using(crate::proofs::Accesses::first_cost))]

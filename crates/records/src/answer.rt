@@ -1,4 +1,4 @@
-// An answer as bytes. From document 01, "Answer".
+// An answer as bytes. From docs/RULES.md, "The answer".
 ghost use Rattle.std.specs.Prelude.{◌≡◌};
 ghost use Rattle.model.specs.BoardBytes as def;
 

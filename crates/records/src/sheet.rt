@@ -1,5 +1,5 @@
-// A sheet: its header, its records, the steps they stand for, and the faults of a record. From document 01, "Sheet" and the
-// table of kinds.
+// A sheet: its header, its records, the steps they stand for, and the faults of a record. From docs/RULES.md, "The sheet",
+// "The kinds of record" and "The two versions".
 ghost use Rattle.std.specs.Prelude.{◌≡◌, ◌+◌, ◌*◌, ◌≤◌, ◌<◌, length, unwrap_or, IfSome};
 ghost use Rattle.model.specs.Sheet as def;
 ghost use Rattle.records.specs.Shape.{Shaped};
@@ -114,7 +114,7 @@ fn isa_state(size: u8) -> IsaState
     }
 }
 
-// The words of a block (W-207): as many as its value says, where that is 1 to 16.
+// The words of a block: as many as its value says, where that is 1 to 16.
 #[tactic(auto, unfolding(model::specs::Sheet::words_of))]
 pub fn words_of(value: u32) -> u32
     ensures { result ≡ def.words_of value }

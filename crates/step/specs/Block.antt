@@ -1,5 +1,5 @@
--- A block as the code does it (W-207): what its functions are handed and promise, and the laws of its two loops over the words:
--- one in time, one that stores.
+-- A block as the code does it: what its functions are handed and promise, and the laws of its two loops over the words: one in
+-- time, one that stores.
 use Rattle.std.specs.Prelude.{◌≡◌, ℕ, zero, suc, ◌+◌, ◌-◌, ◌*◌, ◌^◌, ◌<◌, ◌≤◌, List, [], ◌++◌, length, refl}
 use Rattle.std.proofs.Common.{sym, ◌∙◌, append_assoc, append-nil, arith, add-zero, add_assoc, length-append}
 use Rattle.std.proofs.Math.Path.{ap}

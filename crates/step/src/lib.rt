@@ -1,5 +1,5 @@
-// One step of a run: what a record does to the board and the store, and its answer. Each step stands for the Rust calls that
-// document 01's table names.
+// One step of a run: what a record does to the board and the store, and its answer. Each step stands for the Rust's call that
+// the table of docs/RULES.md, "The kinds of record", names.
 #![tactic(auto)]
 
 ghost use Rattle.std.specs.Prelude.{◌≡◌, ◌-◌, ◌*◌, ◌<◌, ◌≤◌, [], length};
@@ -73,7 +73,7 @@ fn data_price(
     timing::data_cycles(waits, register.sram_waits(), size, addr, region, previous)
 }
 
-// The clock after a data access at a lowered address, which is the previous one from now on (W-204). READ and WRITE price it and
+// The clock after a data access at a lowered address, which is the previous one from now on. READ and WRITE price it and
 // remember it in lines of their own: in a function for both that takes and gives the clock, the clock would stand in memory.
 fn accessed(clock: Clock, size: AccessSize, addr: u32) -> Clock
     ensures { result ≡ steps.with_previous clock (previously addr (size_bytes_of size)) }
@@ -200,7 +200,7 @@ fn write_step(
     }
 }
 
-// ---- blocks (W-207): word accesses at rising addresses
+// ---- blocks: word accesses at rising addresses
 
 // The cycles of a block: each word is priced by itself, after the access before it. The waits are built here: an array that is
 // handed to a function which stays one would stand in memory throughout the run.
@@ -359,7 +359,7 @@ fn with_prefetch(clock: Clock, prefetch: PrefetchBuffer) -> Clock
     Clock { prefetch, ..clock }
 }
 
-// The clock after a step that clears the previous data access (W-204).
+// The clock after a step that clears the previous data access.
 fn cleared(clock: Clock) -> Clock
     ensures { result ≡ steps.cleared clock }
 {

@@ -131,7 +131,7 @@ pub fn write(
     }
 }
 
-// `write32`, for the words of a block (W-207): it does the same in every display mode, so that it needs no lengths. One `write`
+// `write32`, for the words of a block: it does the same in every display mode, so that it needs no lengths. One `write`
 // for both is as quick, but it asks that the lengths add up to the store, which this one never did.
 pub fn write_word(target: Target, addr: u32, value: u32, store: &mut [u8]) -> Stored
     requires { Lies (length store.old) target }

@@ -1,4 +1,5 @@
-// The contract's tariff: what cycles cost at a rate, and each step's share of what a run costs. From document 02, W-202.
+// The contract's tariff: what cycles cost at a rate, and each step's share of what a run costs. From docs/RULES.md,
+// "The charge and the shares".
 #![tactic(auto)]
 
 ghost use Rattle.std.specs.Prelude.{◌≡◌, ◌*◌, ◌≤◌, length};

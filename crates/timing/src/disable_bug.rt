@@ -50,7 +50,7 @@ pub fn arm_likely_i_cycles_no_pc(raw: u32) -> bool
     mul | ldr | ldm | swp | shift_rs
 }
 
-// The high byte of Thumb's POP, its lowest bit clear: where the Rust looks for it, and from version 2 on where it is (W-207).
+// The high byte of Thumb's POP, its lowest bit clear: where the Rust looks for it, and from version 2 on where it is.
 fn pop_byte(version: Version) -> u16
     ensures { result ≡ 2 * def.pop_opcode version }
 {

@@ -1,5 +1,5 @@
 // The price of an instruction and of a data access. Port of src/cpu/timing.rs; `disable_bug` is src/bus/disable_bug.rs. The data
-// price is document 01's addition. The state goes in by value; nothing here reads a memory.
+// price is added (docs/RULES.md, "What a data access costs"). The state goes in by value; nothing here reads a memory.
 #![tactic(auto)]
 
 ghost use Rattle.std.specs.Prelude.{◌≡◌, ◌≤◌};
@@ -142,7 +142,7 @@ pub fn price_insn(input: TimingInput, waits: [[u8; 2]; 3], prefetch: PrefetchBuf
     }
 }
 
-// The kind of a data access to ROM at a lowered address, from the previous one (W-204). What goes on where that ended, and begins
+// The kind of a data access to ROM at a lowered address, from the previous one. What goes on where that ended, and begins
 // no block, lies in one block with it: the regions are the same, and need not be decoded to be compared.
 #[tactic(auto, using(crate::proofs::Laws::kind_in_rom), unfolding(model::specs::Price::kind_after))]
 fn rom_kind_after(previous: Previous, addr: u32) -> AccessKind

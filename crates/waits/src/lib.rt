@@ -176,7 +176,7 @@ pub fn rom_half_cycles(waits: [[u8; 2]; 3], window: RomWindow, kind: AccessKind)
 }
 
 // A word from ROM: two beats, the second sequential. The sum is over waits, which are bytes, so that it fits. Ported for
-// completeness: nothing calls it, since W-204 prices a word by its first half.
+// completeness: nothing calls it, since what a word costs is added up beat by beat, the first by the access before it.
 #[tactic(auto, unfolding(model::specs::Wait::rom_half_cycles))]
 pub fn rom_word_cycles(waits: [[u8; 2]; 3], window: RomWindow, first: AccessKind) -> u32
     ensures { result ≡ def.rom_word_cycles waits window first }

@@ -1,4 +1,4 @@
--- W-202, of bytes as lent: when a run under a tariff is refused, and with what; what a refusal leaves; and what an accepted run's
+-- A run under a tariff, of bytes as lent: when it is refused, and with what; what a refusal leaves; and what an accepted run's
 -- charge and shares are.
 use Rattle.std.specs.Prelude.{◌≡◌, refl, true, false, ◌||◌, ◌≢◌, List, [], ◌∷◌, ℕ, zero, suc, ◌+◌, ◌-◌, ◌*◌, ◌^◌, ◌≤◌, ◌<◌, length, get_or, take, drop, eqb, ltb}
 use Rattle.std.proofs.Common.{sym, ap₂, ◌∙◌, arith, drop_at, lit<, ltb-false, le-ltb, ne_eqb}
@@ -256,7 +256,7 @@ module _ (t : Tariffed) (b : Billed) (ok : b ≡ bill t) (zero_number : b.run.nu
         beyond = behind_shares;
       }
 
--- ---- demand 3's sentence for the tariff
+-- ---- the same for every memory: two bills
 
 -- under one rate two accepted runs whose sheets and first boards are alike have the same shares and charge
 pub same_bill : (t u : Tariffed) (a b : Billed) → a ≡ bill t → b ≡ bill u → a.run.number ≡ 0 → b.run.number ≡ 0

@@ -1,4 +1,4 @@
--- The bytes of a block's words (W-207) are at places of their own in the lent store: two of its words never meet one byte.
+-- The bytes of a block's words are at places of their own in the lent store: two of its words never meet one byte.
 use Rattle.std.specs.Prelude.{◌≡◌, refl, ◌⊎◌, List, [], ◌∷◌, ◌++◌, ℕ, zero, suc, ◌+◌, ◌*◌, ◌/◌, ◌%◌, ◌^◌, ◌≤◌, ◌<◌, ltb, eqb, leb, not, ◌&&◌}
 use Rattle.std.specs.Prelude.{Option, Some, None}
 use Rattle.std.specs.Prelude.{if◌then◌else◌}

@@ -1,5 +1,5 @@
--- A block stands for its words (W-207): what it leaves, costs, answers and tells is what its words do as READ 4 or WRITE 4 steps
--- of their own, one after the other.
+-- A block stands for its words: what it leaves, costs, answers and tells is what its words do as READ 4 or WRITE 4 steps of their
+-- own, one after the other.
 use Rattle.std.specs.Prelude.{◌≡◌, Bool, true, false, ◌||◌}
 use Rattle.std.proofs.Math.Path.{refl, ap, ap₂}
 use Rattle.std.proofs.lemmas.Bool.{false≢true}

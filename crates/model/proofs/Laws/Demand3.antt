@@ -1,6 +1,6 @@
--- Demand 3, of bytes as lent: every accepted run answers what the definitions have, its total is the sum of the cycles in its
--- answers and lies within its limits; and two of them whose sheets and first boards are alike, over any memories, agree in
--- answer bytes 4 to 10 of every step, but for the hits of WRITE and BLOCK WRITE, and in the total.
+-- The same for every memory, of bytes as lent: every accepted run answers what the definitions have, its total is the sum of the
+-- cycles in its answers and lies within its limits; and two of them whose sheets and first boards are alike, over any memories,
+-- agree in answer bytes 4 to 10 of every step, but for the hits of WRITE and BLOCK WRITE, and in the total.
 use Rattle.std.specs.Prelude.{◌≡◌, refl, ◌≢◌, ℕ, zero, suc, ◌+◌, ◌-◌, ◌*◌, ◌%◌, ◌≤◌, ◌<◌, length, take, drop}
 use Rattle.std.proofs.Math.Path.{sym, ap, ap₂}
 use Rattle.std.proofs.Common.{◌∙◌, arith, add-zero, add_assoc, mod-eq_of_lt, get_or-append-add, get_or-take, get_or-drop, get_or-set_other}

@@ -1,4 +1,4 @@
--- W-206, of bytes as lent: when a run with grounds is refused, and with what; what a refusal leaves; and what an accepted run's
+-- A run with grounds, of bytes as lent: when it is refused, and with what; what a refusal leaves; and what an accepted run's
 -- grounds are.
 use Rattle.std.specs.Prelude.{◌≡◌, refl, ◌≢◌, ℕ, zero, suc, ◌-◌, ◌≤◌, ◌<◌, length, get_or, drop, replicate}
 use Rattle.std.proofs.Common.{sym, ◌∙◌, arith, length-append, lit<}
@@ -185,7 +185,7 @@ module _ (e : Explaining) (x : Explained) (ok : x ≡ explain e) (zero_number : 
         beyond = ap (drop (grounds_start n)) grounds_are ∙ drop_at (grounds_bytes (run_grounds e.run)) _ _ bytes_many;
       }
 
--- ---- demand 3's sentence for the grounds
+-- ---- the same for every memory: two runs' grounds
 
 pub same_explained : (e f : Explaining) (x y : Explained) → x ≡ explain e → y ≡ explain f → x.run.number ≡ 0
     → y.run.number ≡ 0 → AlikeSheets e.run.sheet f.run.sheet → AlikeBoards e.run.board f.run.board

@@ -1,5 +1,5 @@
--- The starred worked figures of document 01, joined as one theorem about the definitions. Each starts from the fresh board;
--- where a figure is about a large memory, it holds whatever the memory held.
+-- The starred worked figures of docs/RULES.md, "Figures", joined as one theorem about the definitions. Each starts from the fresh
+-- board; where a figure is about a large memory, it holds whatever the memory held.
 use Rattle.std.specs.Prelude.{refl}
 use Rattle.model.specs.Laws.Figures.{machine, WorkedFigures}
 

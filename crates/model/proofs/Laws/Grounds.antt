@@ -1,5 +1,5 @@
--- The grounds of a step (W-206): a byte says which ground it is; each is named exactly when its condition decides the beat; their
--- cycles and the internal cycle make the step's cycles; and an access or a fetch has at most two, so that 32 bytes hold a step's.
+-- The grounds of a step: a byte says which ground it is; each is named exactly when its condition decides the beat; their cycles
+-- and the internal cycle make the step's cycles; and an access or a fetch has at most two, so that 32 bytes hold a step's.
 use Rattle.std.specs.Prelude.{◌≡◌, refl, Bool, true, false, List, [], ◌∷◌, ◌++◌, map, ℕ, zero, suc, ◌+◌, ◌-◌, ◌*◌, ◌≤◌, ◌<◌, length, eqb, ltb}
 use Rattle.std.proofs.Common.{sym, ap, ap₂, ◌∙◌, true≢false, arith, length-append, eqb-true, eq-eqb}
 use Rattle.std.proofs.lemmas.Bool.{false≢true}

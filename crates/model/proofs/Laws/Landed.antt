@@ -1,6 +1,6 @@
--- How many bytes of a store land (W-201). The number is the length of the list of bytes that land; here is what it says: they
--- are so many different bytes of the lent store, each holds afterwards what was stored, and which they are hangs on lengths,
--- display mode, size and address alone.
+-- How many bytes of a store land. The number is the length of the list of bytes that land; here is what it says: they are so many
+-- different bytes of the lent store, each holds afterwards what was stored, and which they are hangs on lengths, display mode,
+-- size and address alone.
 use Rattle.std.specs.Prelude.{◌≡◌, refl, Bool, true, false, List, [], ◌∷◌, ◌++◌, ℕ, zero, suc, ◌+◌, ◌-◌, ◌*◌, ◌/◌, ◌%◌, ◌≤◌, ◌<◌, min, length, get_or, set, ltb}
 use Rattle.std.proofs.Common.{sym, ap, ap₂, ◌∙◌, ⊎_elim, arith, zero-add, add-zero, length-append, length-set, get_or-set_same, ltb-true, ltb-false}
 use Rattle.std.proofs.lemmas.Bool.{false≢true}

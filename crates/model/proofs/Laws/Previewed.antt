@@ -1,6 +1,6 @@
--- W-205, of bytes as lent: a preview is the run on a copy of the board, but for the named zeros, for all memories that the run
--- accepts; when it is refused, and with what; and what two alike ones have. That the answers are the run's is the law of
--- demand 3 (`run_blanked`), put into bytes.
+-- A preview, of bytes as lent: it is the run on a copy of the board, but for the named zeros, for all memories that the run
+-- accepts; when it is refused, and with what; and what two alike ones have. That the answers are the run's is the law
+-- `run_blanked` of Times.antt, put into bytes.
 use Rattle.std.specs.Prelude.{◌≡◌, Bool, not, ◌≢◌, ℕ, ◌*◌, ◌≤◌, ◌<◌, length, drop, eqb}
 use Rattle.std.proofs.Math.Path.{refl, sym, ap}
 use Rattle.std.proofs.Common.{ap₂, ◌∙◌, arith, lit<, ne_eqb}
@@ -180,7 +180,7 @@ pub accepted_preview : (q : Asked) → (preview q).number ≡ 0 → preview q �
 unfolding preview preview_verdict
 accepted_preview q h = ap (preview_by q) (zero_accepted (preview_verdict q) (sym (number_is q) ∙ h))
 
--- its total lies within the limits of demand 3
+-- its total lies within the limits of a run's
 pub total_limits : (q : Asked) → (preview q).number ≡ 0 → Limits (records_of q.sheet) (preview q).total
 unfolding preview_answers
 total_limits q h =

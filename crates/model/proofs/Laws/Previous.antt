@@ -1,5 +1,5 @@
--- Runs of data accesses (W-204): when the previous access is sound, what the kind of the next one follows from, what that makes
--- of its price, and which steps set, keep and clear it.
+-- Runs of data accesses: when the previous access is sound, what the kind of the next one follows from, what that makes of its
+-- price, and which steps set, keep and clear it.
 use Rattle.std.specs.Prelude.{◌≡◌, refl, ◌≢◌, Bool, true, false, ◌&&◌, ◌||◌, ℕ, zero, suc, ◌+◌, ◌*◌, ◌/◌, ◌%◌, ◌^◌, ◌≤◌, ◌<◌, get_or, eqb, ltb}
 use Rattle.std.proofs.Math.Path.{sym, ap}
 use Rattle.std.proofs.Common.{ap₂, ◌∙◌, true≢false, arith, mod-eq_of_lt, eqb-true, eq-eqb, ne_eqb}
@@ -207,7 +207,7 @@ only_the_previous c d m n i j y b z a e =
     ∙ ap (λ (w : ℕ). data_cycles w (access_of y b) z a) e
     ∙ sym (next_cost d i y b j z a)
 
--- without a previous access it is document 01's price: in ROM N, of a word N + S
+-- without a previous access it is the price of a nonsequential one: in ROM N, of a word N + S
 pub first_cost : (c : Clock) (m : Way) (z : AccessSize) (a : ℕ) → previous c ≡ no_access
     → access_cost c m z a ≡ price (waits_of c) (data_beats_in (sram_waits c.waitcnt) z Nonseq (decode a))
 unfolding data_beats

@@ -1,5 +1,5 @@
--- Document 01's table of what a run gives back, as theorems: each number exactly when its row's condition holds and no
--- earlier one does; the index; and what a refusal leaves.
+-- The table of docs/RULES.md, "What a run is refused with", as theorems: each number exactly when its row's condition holds and
+-- no earlier one does; the index; and what a refusal leaves.
 use Rattle.std.specs.Prelude.{◌≡◌, refl, Bool, true, false, not, ◌||◌, ◌≢◌, List, [], ◌∷◌, ℕ, zero, suc, ◌+◌, ◌≤◌, ◌<◌, min, length, get_or, ltb}
 use Rattle.std.proofs.Common.{sym, ap, ◌∙◌, arith, lit<, le-ltb, ltb-true, ltb-false}
 use Rattle.std.proofs.lemmas.Bool.{not-false, false≢true}
@@ -120,7 +120,7 @@ module _ (s : List ℕ) where
       let y : ◌≡◌ {A = ℕ} 0 1 = cc in absurd (omega arith))
       (λ e. ltb-false _ _ e)
 
-  -- W-203: the least faulty record is the lower of what the two walks find
+  -- the least faulty record is the lower of what the two walks find
   pub lower_of_two : LowerOfTwo s (fault_index s)
   lower_of_two =
       record {
@@ -227,7 +227,7 @@ index i =
       accepted = λ h. ap (λ (o : Outcome). o.index) (was_accepted i h);
     }
 
--- W-203: the record that 7 names, of any table with such an index
+-- the record that 7 names is the lower of the two, of any table with such an index
 pub faulty_lower : (s : List ℕ) {number k : ℕ} → Index s number k → number ≡ 7 → LowerOfTwo s k
 faulty_lower s {number} {k} told h = first_lower s k (told.faulty_record h)
 

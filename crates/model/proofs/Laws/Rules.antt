@@ -1,4 +1,4 @@
--- Single rules of document 01 that its reader may look for, each as a law about the definitions: WAITCNT's bits, when a fetch
+-- Single rules of docs/RULES.md that its reader may look for, each as a law about the definitions: WAITCNT's bits, when a fetch
 -- hits, when it drains, what a restart leaves, when idle cycles change nothing, and who moves the force flag.
 use Rattle.std.specs.Prelude.{◌≡◌, refl, Bool, true, false, not, ◌&&◌, ◌≢◌, ℕ, zero, suc, ◌≤◌, eqb, ltb}
 use Rattle.std.proofs.Math.Path.{ap}

@@ -1,5 +1,5 @@
--- A run with a second buffer beside the answers, for shares (W-202) or grounds (W-206): with room in it the table says what the
--- run's does, and no row holds exactly when none of the run's does and there is room.
+-- A run with a second buffer beside the answers, for shares or grounds: with room in it the table says what the run's does, and
+-- no row holds exactly when none of the run's does and there is room.
 use Rattle.std.specs.Prelude.{◌≡◌, Bool, false, ◌||◌, List, ◌++◌, ℕ, ◌*◌, length, ltb}
 use Rattle.std.proofs.Common.{sym, ap, ◌∙◌, ltb-true, ltb-false, le-ltb}
 use Rattle.model.specs.Base.{Exactly}

@@ -1,5 +1,5 @@
--- The core of demand 3 and of the preview (W-205), one law for both: a run's answers, without what only the memories tell, are
--- those of its clock and its steps alone.
+-- The core of what is the same for every memory and of the preview, one law for both: a run's answers, without what only the
+-- memories tell, are those of its clock and its steps alone.
 use Rattle.std.specs.Prelude.{◌≡◌, refl, List, [], ◌∷◌, ◌++◌, ℕ, zero, suc, ◌<◌, length, get_or}
 use Rattle.std.proofs.Common.{sym, ap, ◌∙◌, arith, add-zero}
 use Rattle.model.specs.Base.{bit, sum}

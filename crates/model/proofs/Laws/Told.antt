@@ -1,4 +1,4 @@
--- W-201 and W-207, of bytes as lent: what byte 8 of a WRITE's or a BLOCK WRITE's answer tells of the store that the run leaves.
+-- Of bytes as lent: what byte 8 of a WRITE's or a BLOCK WRITE's answer tells of the store that the run leaves.
 use Rattle.std.specs.Prelude.{◌≡◌, refl, true, List, [], ◌∷◌, ℕ, suc, ◌*◌, ◌%◌, ◌≤◌, ◌<◌, length, take}
 use Rattle.std.proofs.Common.{sym, ap₂, ◌∙◌, arith, zero-add, take-suc, eqb-true}
 use Rattle.std.proofs.Math.Path.{ap}

@@ -1,5 +1,5 @@
--- A version 1 sheet means what it did before version 2 (W-207): it is examined, priced and run as the definitions of its time
--- have it, down to each step's time and price. And a reader of that time refuses a version 2 sheet with 2.
+-- A version 1 sheet means what it did before version 2: it is examined, priced and run as the definitions of its time have it,
+-- down to each step's time and price. And a reader of that time refuses a version 2 sheet with 2.
 use Rattle.std.specs.Prelude.{◌≡◌, ◌≢◌, Bool, true, false, List, [], ◌∷◌, ◌++◌, map, ℕ, zero, suc, ◌+◌, ◌/◌, ◌%◌, ◌^◌, ◌≤◌, length, eqb, ltb, leb}
 use Rattle.std.proofs.Math.Path.{refl, ap}
 use Rattle.std.proofs.Common.{ap₂, ◌∙◌, arith}
@@ -280,7 +280,7 @@ module _ (i : Lent) (one : version_of i.sheet ≡ 1) where
   same_outcome (Refused r) f = refl
   same_outcome Accepted f = ap (λ (d : Result). outcome_of i d Accepted) (same_ran (f refl))
 
-  -- the sentence of the request
+  -- so its outcome is what it was
   pub version_one : outcome i ≡ outcome₁ i
   unfolding outcome outcome₁
   version_one =

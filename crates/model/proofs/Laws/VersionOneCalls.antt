@@ -1,5 +1,5 @@
--- A version 1 sheet means what it did before version 2 (W-207) to the three other operations too: what is charged and shared
--- (W-202), what a preview tells (W-205), and each beat's ground (W-206).
+-- A version 1 sheet means what it did before version 2 to the three other operations too: what is charged and shared, what a
+-- preview tells, and each beat's ground.
 use Rattle.std.specs.Prelude.{◌≡◌, true, List, [], ◌∷◌, ◌++◌, map, ℕ, ◌*◌, length, drop}
 use Rattle.std.proofs.Math.Path.{refl, ap}
 use Rattle.std.proofs.Common.{ap₂, ◌∙◌}

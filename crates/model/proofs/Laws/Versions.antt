@@ -1,5 +1,6 @@
--- W-207: the run refuses every version but 1 and 2 with 2, and so do the three other operations; and what version 2 moves in the
--- price of an instruction, its `cart_idle` and its force flag, as priced and as answered: Thumb's 0xBA to 0xBD, and nothing else.
+-- The two versions: the run refuses every version but 1 and 2 with 2, and so do the three other operations; and what version 2
+-- moves in the price of an instruction, its `cart_idle` and its force flag, as priced and as answered: Thumb's 0xBA to 0xBD, and
+-- nothing else.
 use Rattle.std.specs.Prelude.{◌≡◌, refl, ◌≢◌, Bool, true, false, not, ◌&&◌, ◌||◌, List, ◌++◌, ℕ, ◌+◌, ◌≤◌, eqb, leb}
 use Rattle.std.proofs.Common.{sym, ap, ap₂, ◌∙◌, arith, add-zero, eqb-true, leb-true}
 use Rattle.std.proofs.Math.Bool.{and-true, and-false}

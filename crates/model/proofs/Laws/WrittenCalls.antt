@@ -1,5 +1,5 @@
--- A block is its words, of a call (W-207): what an accepted run leaves, costs, answers and tells is what the run does of the
--- sheet's records with each block written out; and so is it of any second call whose sheet has those records.
+-- A block is its words, of a call: what an accepted run leaves, costs, answers and tells is what the run does of the sheet's
+-- records with each block written out; and so is it of any second call whose sheet has those records.
 use Rattle.std.specs.Prelude.{◌≡◌, List, [], ◌∷◌, map, ℕ, zero, suc, ◌+◌, ◌≤◌, ◌<◌, length, take, get_or}
 use Rattle.std.proofs.Math.Path.{refl, sym, ap, ap₂}
 use Rattle.std.proofs.Common.{◌∙◌, arith}

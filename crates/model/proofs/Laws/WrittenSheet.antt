@@ -1,5 +1,5 @@
--- The sheet in which each block is written out (W-207), as bytes: it is accepted where the first sheet is, if there is room for
--- its records and their answers, so that there is a second call as the laws of WrittenCalls speak of.
+-- The sheet in which each block is written out, as bytes: it is accepted where the first sheet is, if there is room for its
+-- records and their answers, so that there is a second call as the laws of WrittenCalls speak of.
 use Rattle.std.specs.Prelude.{◌≡◌, true, List, [], ◌∷◌, ◌++◌, ℕ, zero, suc, ◌+◌, ◌*◌, ◌^◌, ◌≤◌, ◌<◌, length, get_or, eqb, leb}
 use Rattle.std.specs.Prelude.{if◌then◌else◌}
 use Rattle.std.proofs.Math.Path.{refl, sym, ap}

@@ -1,5 +1,5 @@
 -- Words of the laws in proofs/Laws/Billed.antt, as definitions. Those laws:
--- W-202, of bytes as lent: when a run under a tariff is refused, and with what; what a refusal leaves; and what an accepted run's
+-- A run under a tariff, of bytes as lent: when it is refused, and with what; what a refusal leaves; and what an accepted run's
 -- charge and shares are.
 use Rattle.std.specs.Prelude.{◌≡◌, ℕ, ◌≤◌, length}
 use Rattle.model.specs.Tariff.{max_rate, share_length, Tariffed, Billed}

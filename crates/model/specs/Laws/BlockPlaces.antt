@@ -1,5 +1,5 @@
 -- Words of the laws in proofs/Laws/BlockPlaces.antt, as definitions. Those laws:
--- The bytes of a block's words (W-207) are at places of their own in the lent store: two of its words never meet one byte.
+-- The bytes of a block's words are at places of their own in the lent store: two of its words never meet one byte.
 use Rattle.std.specs.Prelude.{◌≡◌, List, ℕ, ◌+◌, ◌-◌, ◌/◌, ◌%◌, ◌≤◌, ◌<◌, ltb}
 use Rattle.std.specs.Prelude.{Option, Some, None}
 use Rattle.std.specs.Prelude.{if◌then◌else◌}

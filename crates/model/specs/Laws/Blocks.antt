@@ -1,6 +1,6 @@
 -- Words of the laws in proofs/Laws/Blocks.antt, as definitions. Those laws:
--- A block stands for its words (W-207): what it leaves, costs, answers and tells is what its words do as READ 4 or WRITE 4 steps
--- of their own, one after the other.
+-- A block stands for its words: what it leaves, costs, answers and tells is what its words do as READ 4 or WRITE 4 steps of their
+-- own, one after the other.
 use Rattle.std.specs.Prelude.{◌≡◌}
 use mathlib.Core.List.{List, [], ◌∷◌, ◌++◌, map}
 use Prim.Native.Nat.{ℕ, zero, suc}

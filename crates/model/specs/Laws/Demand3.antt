@@ -1,7 +1,7 @@
 -- Words of the laws in proofs/Laws/Demand3.antt, as definitions. Those laws:
--- Demand 3, of bytes as lent: every accepted run answers what the definitions have, its total is the sum of the cycles in its
--- answers and lies within its limits; and two of them whose sheets and first boards are alike, over any memories, agree in
--- answer bytes 4 to 10 of every step, but for the hits of WRITE and BLOCK WRITE, and in the total.
+-- The same for every memory, of bytes as lent: every accepted run answers what the definitions have, its total is the sum of the
+-- cycles in its answers and lies within its limits; and two of them whose sheets and first boards are alike, over any memories,
+-- agree in answer bytes 4 to 10 of every step, but for the hits of WRITE and BLOCK WRITE, and in the total.
 use Rattle.std.specs.Prelude.{false}
 use Rattle.model.specs.declared.Answer.{Answer}
 

@@ -1,5 +1,5 @@
 -- Words of the laws in proofs/Laws/Explained.antt, as definitions. Those laws:
--- W-206, of bytes as lent: when a run with grounds is refused, and with what; what a refusal leaves; and what an accepted run's
+-- A run with grounds, of bytes as lent: when it is refused, and with what; what a refusal leaves; and what an accepted run's
 -- grounds are.
 use Rattle.std.specs.Prelude.{◌≡◌, length}
 use Rattle.model.specs.Grounds.{grounds_length, Explaining}

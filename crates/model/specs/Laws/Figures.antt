@@ -1,6 +1,6 @@
 -- Words of the laws in proofs/Laws/Figures.antt, as definitions. Those laws:
--- The starred worked figures of document 01, joined as one theorem about the definitions. Each starts from the fresh board;
--- where a figure is about a large memory, it holds whatever the memory held.
+-- The starred worked figures of docs/RULES.md, "Figures", joined as one theorem about the definitions. Each starts from the fresh
+-- board; where a figure is about a large memory, it holds whatever the memory held.
 use Rattle.std.specs.Prelude.{◌≡◌, false, List, [], ◌∷◌, map, ℕ, set}
 use Rattle.model.specs.Region.{decode}
 use Rattle.model.specs.Mirror.{ewram_offset, vram_offset, io_offset}

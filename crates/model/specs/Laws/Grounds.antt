@@ -1,6 +1,6 @@
 -- Words of the laws in proofs/Laws/Grounds.antt, as definitions. Those laws:
--- The grounds of a step (W-206): a byte says which ground it is; each is named exactly when its condition decides the beat; their
--- cycles and the internal cycle make the step's cycles; and an access or a fetch has at most two, so that 32 bytes hold a step's.
+-- The grounds of a step: a byte says which ground it is; each is named exactly when its condition decides the beat; their cycles
+-- and the internal cycle make the step's cycles; and an access or a fetch has at most two, so that 32 bytes hold a step's.
 use Rattle.std.specs.Prelude.{Bool, false, ◌&&◌, List, ◌≤◌, length}
 use Rattle.std.specs.Prelude.{Option, Some, None}
 use Rattle.model.specs.Price.{BusKind, OnEwram, OnVideo, OnRom, OnSram, OnFast}

@@ -1,7 +1,7 @@
 -- Words of the laws in proofs/Laws/Landed.antt, as definitions. Those laws:
--- How many bytes of a store land (W-201). The number is the length of the list of bytes that land; here is what it says: they
--- are so many different bytes of the lent store, each holds afterwards what was stored, and which they are hangs on lengths,
--- display mode, size and address alone.
+-- How many bytes of a store land. The number is the length of the list of bytes that land; here is what it says: they are so many
+-- different bytes of the lent store, each holds afterwards what was stored, and which they are hangs on lengths, display mode,
+-- size and address alone.
 use Rattle.std.specs.Prelude.{List, [], ◌∷◌, map, ℕ, ◌-◌, ◌<◌, min}
 use Rattle.model.specs.Store.{Put}
 use Rattle.model.specs.Laws.Choice.{All}

@@ -1,7 +1,7 @@
 -- Words of the laws in proofs/Laws/Previewed.antt, as definitions. Those laws:
--- W-205, of bytes as lent: a preview is the run on a copy of the board, but for the named zeros, for all memories that the run
--- accepts; when it is refused, and with what; and what two alike ones have. That the answers are the run's is the law of
--- demand 3 (`run_blanked`), put into bytes.
+-- A preview, of bytes as lent: it is the run on a copy of the board, but for the named zeros, for all memories that the run
+-- accepts; when it is refused, and with what; and what two alike ones have. That the answers are the run's is the law
+-- `run_blanked` of Times.antt, put into bytes.
 use Rattle.std.specs.Prelude.{◌≡◌, ◌≢◌, ℕ, ◌*◌, ◌<◌}
 use Rattle.model.specs.Base.{byte_at}
 use Rattle.model.specs.Sheet.{record_count}

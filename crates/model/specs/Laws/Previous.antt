@@ -1,6 +1,6 @@
 -- Words of the laws in proofs/Laws/Previous.antt, as definitions. Those laws:
--- Runs of data accesses (W-204): when the previous access is sound, what the kind of the next one follows from, what that makes
--- of its price, and which steps set, keep and clear it.
+-- Runs of data accesses: when the previous access is sound, what the kind of the next one follows from, what that makes of its
+-- price, and which steps set, keep and clear it.
 use Rattle.std.specs.Prelude.{◌≡◌, ◌≢◌, true, List, [], ◌∷◌, ℕ, ◌%◌, ◌^◌, ◌<◌}
 use Rattle.model.specs.Base.{further}
 use Rattle.model.specs.Wait.{size_bytes_of, access_size_of, aligned}

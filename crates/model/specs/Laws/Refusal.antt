@@ -1,6 +1,6 @@
 -- Words of the laws in proofs/Laws/Refusal.antt, as definitions. Those laws:
--- Document 01's table of what a run gives back, as theorems: each number exactly when its row's condition holds and no
--- earlier one does; the index; and what a refusal leaves.
+-- The table of docs/RULES.md, "What a run is refused with", as theorems: each number exactly when its row's condition holds and
+-- no earlier one does; the index; and what a refusal leaves.
 use Rattle.std.specs.Prelude.{◌≡◌, Bool, true, false, ◌≢◌, List, ℕ, ◌*◌, ◌≤◌, ◌<◌, min, length}
 use Rattle.model.specs.Base.{Exactly}
 use Rattle.model.specs.Sheet.{latest_version, knows, is_marked, version_of, is_shaped, record_count}
@@ -32,7 +32,7 @@ pub record FirstBy (f : SheetRecord → Bool) (s : List ℕ) (n : ℕ) : Type 0 
   pub none : record_count s ≤ n → NoneFound f s
   pub most : n ≤ record_count s
 
--- W-203: a number is the lower of two, the first record with a fault of kind or size and the first with one of the other fields,
+-- a number is the lower of two, the first record with a fault of kind or size and the first with one of the other fields,
 -- as two walks over the records find them
 pub record LowerOfTwo (s : List ℕ) (k : ℕ) : Type 0 where
   pub kinds : ℕ

@@ -1,5 +1,5 @@
 -- Words of the laws in proofs/Laws/Rules.antt, as definitions. Those laws:
--- Single rules of document 01 that its reader may look for, each as a law about the definitions: WAITCNT's bits, when a fetch
+-- Single rules of docs/RULES.md that its reader may look for, each as a law about the definitions: WAITCNT's bits, when a fetch
 -- hits, when it drains, what a restart leaves, when idle cycles change nothing, and who moves the force flag.
 use Rattle.std.specs.Prelude.{◌≡◌, Bool, true, false, ◌≢◌, ℕ, ◌/◌, ◌%◌}
 use Rattle.model.specs.Base.{lowered}

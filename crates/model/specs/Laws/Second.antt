@@ -1,6 +1,6 @@
 -- Words of the laws in proofs/Laws/Second.antt, as definitions. Those laws:
--- A run with a second buffer beside the answers, for shares (W-202) or grounds (W-206): with room in it the table says what the
--- run's does, and no row holds exactly when none of the run's does and there is room.
+-- A run with a second buffer beside the answers, for shares or grounds: with room in it the table says what the run's does, and
+-- no row holds exactly when none of the run's does and there is room.
 use Rattle.std.specs.Prelude.{ℕ, ◌*◌, ◌≤◌}
 use Rattle.model.specs.Sheet.{record_count}
 use Rattle.model.specs.Outcome.{Lent}

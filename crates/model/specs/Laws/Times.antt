@@ -1,6 +1,6 @@
 -- Words of the laws in proofs/Laws/Times.antt, as definitions. Those laws:
--- The core of demand 3 and of the preview (W-205), one law for both: a run's answers, without what only the memories tell, are
--- those of its clock and its steps alone.
+-- The core of what is the same for every memory and of the preview, one law for both: a run's answers, without what only the
+-- memories tell, are those of its clock and its steps alone.
 use Rattle.std.specs.Prelude.{◌≡◌, List, [], ◌∷◌, ℕ}
 use Rattle.model.specs.Step.{clock_after}
 use Rattle.model.specs.Preview.{foretold}

@@ -1,5 +1,5 @@
 -- Words of the laws in proofs/Laws/Told.antt, as definitions. Those laws:
--- W-201 and W-207, of bytes as lent: what byte 8 of a WRITE's or a BLOCK WRITE's answer tells of the store that the run leaves.
+-- Of bytes as lent: what byte 8 of a WRITE's or a BLOCK WRITE's answer tells of the store that the run leaves.
 use Rattle.std.specs.Prelude.{◌≡◌, List, ℕ, suc, ◌+◌, ◌*◌, ◌%◌, ◌≤◌, length}
 use Rattle.model.specs.Base.{byte_at}
 use Rattle.model.specs.Memory.{lengths_sum}

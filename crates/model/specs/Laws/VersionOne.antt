@@ -1,6 +1,6 @@
 -- Words of the laws in proofs/Laws/VersionOne.antt and VersionOneCalls.antt, as definitions. Those laws:
--- A version 1 sheet means what it did before version 2 (W-207): it is examined, priced and run as the definitions of its time
--- have it, down to each step's time and price. And a reader of that time refuses a version 2 sheet with 2.
+-- A version 1 sheet means what it did before version 2: it is examined, priced and run as the definitions of its time have it,
+-- down to each step's time and price. And a reader of that time refuses a version 2 sheet with 2.
 use Rattle.std.specs.Prelude.{◌≡◌, ℕ, ◌/◌, ◌%◌}
 use Rattle.model.specs.VersionOne.{Step₁, Read₁, Write₁, Waitcnt₁, Idle₁, Fetch₁, Restart₁, Instruction₁, Pc₁, Latch₁}
 use Rattle.model.specs.declared.Version.TheVariants.{One}

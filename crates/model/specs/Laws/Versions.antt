@@ -1,7 +1,7 @@
 -- Words of the laws in proofs/Laws/Versions.antt, as definitions. Those laws:
--- W-207: the run refuses every version but 1 and 2 with 2, and so do the three other operations; when a block's record is
--- without fault, and what it stands for; and what version 2 moves in the
--- price of an instruction, its `cart_idle` and its force flag, as priced and as answered: Thumb's 0xBA to 0xBD, and nothing else.
+-- The two versions: the run refuses every version but 1 and 2 with 2, and so do the three other operations; when a block's record
+-- is without fault, and what it stands for; and what version 2 moves in the price of an instruction, its `cart_idle` and its
+-- force flag, as priced and as answered: Thumb's 0xBA to 0xBD, and nothing else.
 use Rattle.std.specs.Prelude.{◌≡◌, ◌≢◌, Bool, true, false, not, ◌&&◌, ◌||◌, List, ℕ, ◌+◌, ◌/◌, ◌%◌, ◌≤◌, eqb}
 use Rattle.model.specs.Base.{Exactly}
 use Rattle.model.specs.Waitcnt.{Waits}

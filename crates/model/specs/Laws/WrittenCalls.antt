@@ -1,6 +1,6 @@
 -- Words of the laws in proofs/Laws/WrittenCalls.antt, as definitions. Those laws:
--- A block is its words, of a call (W-207): what an accepted run leaves, costs, answers and tells is what the run does of the
--- sheet's records with each block written out; and so is it of any second call whose sheet has those records.
+-- A block is its words, of a call: what an accepted run leaves, costs, answers and tells is what the run does of the sheet's
+-- records with each block written out; and so is it of any second call whose sheet has those records.
 use Rattle.std.specs.Prelude.{◌≡◌, List, [], ◌∷◌, map, ℕ, zero, suc, ◌+◌, ◌<◌, length, take, drop}
 use Rattle.model.specs.Step.{Result, run, total}
 use Rattle.model.specs.Sheet.{record_at, record_count, records_of, step_of}

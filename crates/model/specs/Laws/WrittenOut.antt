@@ -1,6 +1,6 @@
 -- Words of the laws in proofs/Laws/WrittenOut.antt, as definitions. Those laws:
--- A block is its words, over records (W-207): the run of a sheet's records is that of the records in which each block is written
--- out as so many READ 4, or WRITE 4 of 0, and each answer is made of those of its words.
+-- A block is its words, over records: the run of a sheet's records is that of the records in which each block is written out as
+-- so many READ 4, or WRITE 4 of 0, and each answer is made of those of its words.
 use Rattle.std.specs.Prelude.{List, [], ◌∷◌, ◌++◌, ℕ, zero, suc, ◌-◌, length, take, drop, get_or, eqb}
 use Rattle.std.specs.Prelude.{if◌then◌else◌}
 use Rattle.model.specs.Base.{sum, further}

@@ -1,6 +1,6 @@
 -- Words of the laws in proofs/Laws/WrittenSheet.antt, as definitions. Those laws:
--- The sheet in which each block is written out (W-207), as bytes: it is accepted where the first sheet is, if there is room for
--- its records and their answers, so that there is a second call as the laws of WrittenCalls speak of.
+-- The sheet in which each block is written out, as bytes: it is accepted where the first sheet is, if there is room for its
+-- records and their answers, so that there is a second call as the laws of WrittenCalls speak of.
 use Rattle.std.specs.Prelude.{◌≡◌, List, [], ◌∷◌, ◌++◌, ℕ, ◌*◌, ◌^◌, ◌≤◌, ◌<◌, length}
 use Rattle.model.specs.Base.{Field, field, encoded, blocks}
 use Rattle.model.specs.Sheet.{max_records, version_of, records_of}
