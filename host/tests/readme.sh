@@ -86,8 +86,8 @@ readme_checks() {
 needs_checks() {
     sed -n '/^## What it needs/,/^## Price/p' README.md >"$work/needs"
     needed=$(sed -n 's/^#define HOST_TOOLCHAIN "\(.*\)"$/\1/p; s/^#define HOST_RUST ".*commit \(.*\)"$/\1/p' host/version.h)
-    printf '%s\n' "$needed" rt cc c++ rustc gcc g++ valgrind pkg-config man-db x86-64 'Document 01' GRAYCART_SRC >"$work/words"
-    check "words to look for" is "$(wc -l <"$work/words" | tr -d ' ')" 14
+    printf '%s\n' "$needed" rt cc c++ rustc gcc g++ valgrind pkg-config man-db x86-64 GRAYCART_SRC >"$work/words"
+    check "words to look for" is "$(wc -l <"$work/words" | tr -d ' ')" 13
     while read -r word; do check "README needs $word" grep -qF -e "$word" "$work/needs"; done <"$work/words"
     sed -n '/^## Check it/,/^## Call it/p' README.md >"$work/check-it"
     for command in 'rt ci' tests/all tests/against-rust/run host/test tests/speed/run; do

@@ -1,4 +1,4 @@
-//! Tariffs for the cases (document 02, W-202): rates, good and bad, and lists of steps whose totals lie where the rounding
+//! Tariffs for the cases (docs/RULES.md, "The tariff"): rates, good and bad, and lists of steps whose totals lie where the rounding
 //! changes.
 
 use crate::bytes::*;

@@ -1,4 +1,4 @@
-//! The sample's version 2 sheets (document 02, W-207), which stand behind all others: runs, runs under a tariff, runs with
+//! The sample's version 2 sheets, which stand behind all others: runs, runs under a tariff, runs with
 //! grounds, and then previews.
 
 use crate::bills;
