@@ -1,7 +1,7 @@
 # What a listing or a sheet gives: lines, tables and the worked figures.
 
 bench_checks() {
-    good "README's example" -o "$files/sheet" $here/bench.lst
+    good "the example of bench" -o "$files/sheet" $here/bench.lst
     check "bench's lines" cmp -s "$work/out" crates/bench/stdout
     check "bench's sheet" cmp -s "$files/sheet" crates/bench/stdin
     good "the sheet itself" --sheet crates/bench/stdin
@@ -64,8 +64,8 @@ against_bench() {
     check "blocks as bench has it" cmp -s "$work/out" "$work/bench"
 }
 
-# The worked figures (docs/RULES.md, "Figures"): CYCLES VALUE of the last step, then the steps, one an argument; the options in $with, and how many of how
-# many stores land short in $shorts
+# The worked figures (docs/RULES.md, "Figures"): CYCLES VALUE of the last step, then the steps, one an argument; the options in
+# $with, and how many of how many stores land short in $shorts
 with=
 shorts='0 0'
 figure() {

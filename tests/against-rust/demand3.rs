@@ -1,5 +1,6 @@
-//! What is the same for every memory (docs/RULES.md), of one accepted run and of two: the limits on the total, the columns that
-//! agree, the shares with them. What follows for two previews, and for the grounds of two runs.
+//! What is the same for every memory (docs/RULES.md, "What two runs have in common" and "The bounds of a total"), of one accepted
+//! run and of two: the limits on the total, the columns that agree, the shares with them. What follows for two previews, and for
+//! the grounds of two runs.
 
 use crate::bytes::*;
 use crate::grounds::words_of;

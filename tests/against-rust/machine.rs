@@ -1,9 +1,9 @@
 //! A run by the rules (docs/RULES.md), done by calling the unchanged Rust: this is what the library is held against.
 //! The refusals, the order of a step's calls and the data price are added rules, so written here; the hits of a WRITE, the
 //! bytes that landed, are added too, and landed.rs has them from the Rust's store. Which access is the previous one, and which
-//! steps forget it, is written here by "Sequential accesses"; what follows for the price is told by the Rust. Why each step has
-//! the price that it has is told by grounds.rs, which is shown the machine before each. A block is the Rust's access once a
-//! word; where version 2 looks for Thumb's POP is an added rule, and what follows from that is the Rust's.
+//! steps forget it, is written here by RULES, "Sequential accesses"; what follows for the price is told by the Rust. Why each
+//! step has the price that it has is told by grounds.rs, which is shown the machine before each. A block is the Rust's access
+//! once a word; where version 2 looks for Thumb's POP is an added rule, and what follows from that is the Rust's.
 
 use crate::bytes::*;
 use crate::grounds::{self, Ground, Moment};
@@ -334,8 +334,8 @@ impl Machine {
 // ---- the test for an internal cycle ----
 
 /// The opcode that the Rust is asked about. In version 2 Thumb POP is found at 0xBC and 0xBD and no longer at 0xBA and 0xBB
-/// (RULES, "Internal cycles"), where the Rust has it the other way round: for each of these four it is asked about the one that differs in the two
-/// bits 0x06. No price looks at the opcode but for this test.
+/// (RULES, "Internal cycles"), where the Rust has it the other way round: for each of these four it is asked about the one that
+/// differs in the two bits 0x06. No price looks at the opcode but for this test.
 pub fn opcode_for_rust(version: Version, size: u8, opcode: u32) -> u32 {
     match (version, size, opcode >> 8 & 0xFF) {
         (Version::Two, 2, 0xBA..=0xBD) => opcode ^ 0x0600,

@@ -5,7 +5,7 @@
 /// A list of steps, and what is claimed, in the notation of docs/DIFFERENCES.md; besides, `board previous 4 at 0x08000100` is a
 /// board whose previous access was of that size at that lowered address, and `previous` is the one that the run leaves.
 pub const ROWS: &[(&str, &str)] = &[
-    // with no previous access the first halfword of each is N
+    // with no previous access: N first in ROM, and elsewhere the region's price
     ("READ 1 at 0x08000103", "5 cycles, previous 1 at 0x08000103"),
     ("READ 2 at 0x08000102", "5 cycles, previous 2 at 0x08000102"),
     ("READ 4 at 0x08000104", "8 cycles, previous 4 at 0x08000104"),

@@ -320,7 +320,7 @@ fn full_memories(plans: &mut Vec<Plan>) {
     }
 }
 
-/// Stores across the end of each memory, of each length modulo 4, in modes 0–3 and 7, 4, 5, 2: what of them lands (docs/RULES.md, "Did a store land").
+/// Stores across the end of each memory, of each length modulo 4, in modes 0–3 and 7, 4, 5, 2: what of them lands.
 fn memory_ends(plans: &mut Vec<Plan>) {
     for (more, [mode, with_objects]) in [[0, 7], [1, 4], [2, 5], [3, 2]].into_iter().enumerate() {
         plans.push(end_plan(mode, ENDS[0], more));

@@ -23,7 +23,7 @@ pub fn under(case: &Case, tariff: &Tariff, plain: &Outcome) -> Outcome {
     Outcome { report: Bill { charge, ..plain.report }, second: shares, ..plain.clone() }
 }
 
-/// The first condition that is met, as (number, index): those of a run in their order, short shares beside short answers, and the
+/// The first condition that is met, as (number, index): a run's in their order, short shares beside short answers, and the
 /// rate after them all (RULES, "What a run under a tariff is refused with").
 fn refusal(case: &Case, tariff: &Tariff, plain: &Bill) -> Option<(u32, u32)> {
     let rate = u128::from(tariff.rate);
