@@ -17,7 +17,8 @@ pub struct Case {
     pub grounds: Option<Vec<u8>>,
 }
 
-/// A tariff (RULES, "The charge and the shares"): the lent shares, and the rate in cents per million cycles. Neither need be good.
+/// A tariff (RULES, "The charge and the shares"): the lent shares, and the rate in cents per million cycles. Neither need be
+/// good.
 #[derive(Clone)]
 pub struct Tariff {
     pub shares: Vec<u8>,

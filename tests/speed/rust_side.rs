@@ -268,8 +268,8 @@ impl Machine {
         }
     }
 
-    /// The number of memory bytes that a store writes (RULES, "Did a store land"), which the Rust's store doesn't tell: those from
-    /// the lowered place up to the memory's end, but no more than the store's width there.
+    /// The number of memory bytes that a store writes (RULES, "Did a store land"), which the Rust's store doesn't tell: those
+    /// from the lowered place up to the memory's end, but no more than the store's width there.
     #[inline(always)]
     fn landed(&self, size: u8, address: u32) -> u8 {
         let top = (address >> 24).min(16);

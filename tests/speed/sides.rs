@@ -210,9 +210,9 @@ fn priced(kind: u8) -> Priced {
     }
 }
 
-/// What a preview gives where a run of the same sheet gave this (docs/RULES.md, "What a preview gives"): the answers but for what it
-/// doesn't tell, and the board as lent. A table and no jump on each record's kind: what is done between two runs must not make
-/// the processor forget their branches.
+/// What a preview gives (docs/RULES.md) where a run of the same sheet gave this: the answers but for what it doesn't tell, and
+/// the board as lent. A table and no jump on each record's kind: what is done between two runs must not make the processor forget
+/// their branches.
 fn previewed(sheet: &[u8], run: Given) -> Given {
     let Given { report, mut answers, .. } = run;
     let told: [[u8; ANSWER]; KINDS] = std::array::from_fn(|kind| told(kind as u8));
