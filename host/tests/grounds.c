@@ -1,8 +1,8 @@
-/* bts_run_grounds beside bts_run, and its grounds beside a second reading of docs/RULES.md, "The ground of a beat": sheets and
- * boards from a fixed seed, the largest sheet, runs that are alike and runs over no memories, and every refusal, alone and with
- * each that comes behind it; then grounds_text. Each buffer ends at a page that isn't there, and sheet, BIOS and ROM can't be
- * written. Each thing that is wrong is printed, and the last line says how many there were; the exit status is 1 if there was
- * one. */
+/* bts_run_grounds beside bts_run, and its grounds beside a second reading of the rule (docs/RULES.md, "The ground of a beat"):
+ * sheets and boards from a fixed seed, the largest sheet, runs that are alike and runs over no memories, and every refusal,
+ * alone and with each that comes behind it; then grounds_text. Each buffer ends at a page that isn't there, and sheet, BIOS and
+ * ROM can't be written. Each thing that is wrong is printed, and the last line says how many there were; the exit status is 1 if
+ * there was one. */
 #define _DEFAULT_SOURCE /* for anonymous pages */
 
 #include "grounds.h"

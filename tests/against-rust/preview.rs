@@ -1,4 +1,4 @@
-//! A preview: a second reading of docs/RULES.md, "What a preview gives", apart from the library. The Rust has no
+//! A preview: a second reading of the rule (docs/RULES.md, "What a preview gives"), apart from the library. The Rust has no
 //! preview, so that this has it from the Rust's run on a copy (machine.rs), over whatever memories the case lends: a preview is
 //! lent none of them.
 

@@ -1,5 +1,6 @@
-//! What a tariff makes of a run: a second reading of docs/RULES.md, "The charge and the shares", apart from the library. The Rust
-//! has no tariff, so the run itself is the Rust's as it is without one (machine.rs), and this adds charge, shares and refusals.
+//! What a tariff makes of a run: a second reading of the rule (docs/RULES.md, "The charge and the shares"), apart from the
+//! library. The Rust has no tariff, so the run itself is the Rust's as it is without one (machine.rs), and this adds charge,
+//! shares and refusals.
 
 use crate::bytes::*;
 use crate::machine::{refusal_with_second, refused};
