@@ -32,7 +32,7 @@ static const struct option {
     {"--sram", NULL, A_FILE, offsetof(struct options, sram), "the backup memory, as long as the file; without it, zeros"},
     {"--store", NULL, A_FILE, offsetof(struct options, store), "all memories as --store-out wrote them; without it, zeros"},
     {"--board", NULL, A_FILE, offsetof(struct options, board), "a saved board (80 bytes) to start from; without it, a fresh one"},
-    {"--bench", NULL, FLAG, offsetof(struct options, bench), "memories of the sizes of document 01's program"},
+    {"--bench", NULL, FLAG, offsetof(struct options, bench), "memories as long as the program bench has them"},
     {"--full", NULL, FLAG, offsetof(struct options, full), "memories of the physical sizes, as they are without it"},
     {"--sheet", NULL, A_FILE_OR_STDIN, offsetof(struct options, sheet),
      "a sheet in bytes (- is standard input) instead of a listing"},

@@ -25,7 +25,7 @@ struct options {
     const char *sram_out;
     const char *store_out;
     struct rate rate;
-    bool bench;   /* every memory as long as in document 01's program */
+    bool bench;   /* every memory as long as the program bench has it */
     bool full;    /* every memory at its physical size, which is so anyway */
     bool preview; /* priced without memories; then none is lent, and none of them is written, nor the board */
     bool table;   /* the table for a person, instead of bench's lines */

@@ -17,7 +17,7 @@ enum {
     STORE_MOST = 1024 * 1024 /* bytes of a file; over it the file is taken for something else than a store */
 };
 
-/* A memory's name, its physical size, and how long it is in document 01's program. */
+/* A memory's name, its physical size, and how long the program bench has it. */
 struct memory {
     const char *name;
     size_t physical;
@@ -27,7 +27,7 @@ struct memory {
 /* Memory i, below MEMORIES. */
 const struct memory *memory_at(size_t i);
 
-/* How long the memories of a store are made: as on the machine, as in document 01's program, or not there at all. */
+/* How long the memories of a store are made: as on the machine, as the program bench has them, or not there at all. */
 enum sizes { SIZES_PHYSICAL, SIZES_BENCH, SIZES_NONE };
 
 /* A store of zeros, with an SRAM image at its end if `sram` is not NULL. A failure is told on standard error. */

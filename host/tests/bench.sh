@@ -1,5 +1,5 @@
 # The program bench, where it has been built: its exit status, 0 for figures, 1 for a refusal, 2 for input or output that fails,
-# and a word on standard error for what goes wrong; standard output has document 01's lines alone.
+# and a word on standard error for what goes wrong; standard output has the answers' lines alone.
 
 # bench over what is handed in as standard input. What it wrote is then in $work/out, what it said in $work/err, and its exit
 # status in $status.

@@ -101,7 +101,7 @@ static size_t parts_of(size_t k) {
     return is_block(record_of(&whole, k)) ? bts_get32(record_of(&whole, k) + 8) : 1;
 }
 
-/* The same with each block as the accesses of its words, by document 02. */
+/* The same with each block as the accesses of its words (docs/RULES.md, "Blocks"). */
 static void lend_spread(void) {
     memcpy(&spread, &before, sizeof spread);
     spread.steps = 0;

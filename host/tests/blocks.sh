@@ -1,5 +1,5 @@
-# Sheets of version 2 (document 02, W-207): the VERSION line of a listing and what is said of a bad one, blocks in lines, tables,
-# sheets and long listings, what lands of them, their marks; POP in both versions; and the library's own functions.
+# Sheets of version 2 (docs/RULES.md, "The two versions"): the VERSION line of a listing and what is said of a bad one, blocks in
+# lines, tables, sheets and long listings, what lands of them, their marks; POP in both versions; and the library's own functions.
 
 # LISTING: what its comments say: the cycles of each step and its grounds, as the table has them
 expected_blocks() { sed -n 's/^[A-Z].* # //p' "$1"; }

@@ -20,7 +20,7 @@ size_checks() {
     printf 'WRITE 4 0x03007F00 0x12345678\nREAD 4 0x03007F00\n' >"$work/stack"
     good "a stack" "$work/stack"
     check "it is there" is "$(sed -n 2p "$work/out")" "1 1 305419896 0 0 0 fast"
-    lands 1 1 "a stack over document 01's memories" --bench "$work/stack"
+    lands 1 1 "a stack over the memories of bench" --bench "$work/stack"
     check "it is not there, at the same price" is "$(sed -n 2p "$work/out")" "1 1 0 0 0 0 fast"
 }
 

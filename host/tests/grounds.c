@@ -1,7 +1,8 @@
-/* bts_run_grounds beside bts_run, and its grounds beside a second reading of document 02's W-206: sheets and boards from a fixed
- * seed, the largest sheet, runs that are alike and runs over no memories, and every refusal, alone and with each that comes
- * behind it; then grounds_text. Each buffer ends at a page that isn't there, and sheet, BIOS and ROM can't be written. Each thing
- * that is wrong is printed, and the last line says how many there were; the exit status is 1 if there was one. */
+/* bts_run_grounds beside bts_run, and its grounds beside a second reading of the rule (docs/RULES.md, "The ground of a beat"):
+ * sheets and boards from a fixed seed, the largest sheet, runs that are alike and runs over no memories, and every refusal,
+ * alone and with each that comes behind it; then grounds_text. Each buffer ends at a page that isn't there, and sheet, BIOS and
+ * ROM can't be written. Each thing that is wrong is printed, and the last line says how many there were; the exit status is 1 if
+ * there was one. */
 #define _DEFAULT_SOURCE /* for anonymous pages */
 
 #include "grounds.h"
@@ -164,7 +165,7 @@ static void data_grounds(const uint8_t *board, uint8_t size, uint32_t address, u
 
 /* ---- what the grounds add up to */
 
-/* 1 + the waits of a window's halfword, by document 01. */
+/* 1 + the waits of a window's halfword, by RULES, "WAITCNT". */
 static uint32_t rom_cycles(uint32_t waitcnt, uint32_t window, bool nonsequential) {
     static const uint32_t n_waits[] = {4, 3, 2, 8}, s_waits[] = {2, 4, 8};
     uint32_t at = 2 + 3 * window;

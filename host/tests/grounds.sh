@@ -1,5 +1,5 @@
-# Why this many cycles (document 02, W-206): the grounds in the lines and in the table, however the steps are given and run; that
-# they go by the board before the step; their words, wherever a person looks; and the library's own function.
+# Why this many cycles (docs/RULES.md, "The ground of a beat"): the grounds in the lines and in the table, however the steps are
+# given and run; that they go by the board before the step; their words, wherever a person looks; and the library's own function.
 
 ground_words='hit seq flag block address ewram sram video fast'
 

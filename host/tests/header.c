@@ -128,7 +128,7 @@ static int grounded_run(void) {
     return bts_ground_at(grounds, 1, 0) == BTS_GROUND_EWRAM && bts_ground_at(grounds, 1, 1) == BTS_GROUND_NONE ? 0 : 32;
 }
 
-/* The grounds by document 02's words, in the order of their numbers; and what are no grounds. */
+/* The grounds by their words (docs/RULES.md, "The ground of a beat"), in the order of their numbers; and what are no grounds. */
 static int names_of_grounds(void) {
     static const char *const words[] = {"hit", "seq", "flag", "block", "address", "ewram", "sram", "video", "fast"};
     static const int numbers[] = {BTS_GROUND_HIT,   BTS_GROUND_SEQ,  BTS_GROUND_FLAG,  BTS_GROUND_BLOCK, BTS_GROUND_ADDRESS,

@@ -1,7 +1,7 @@
-# What a listing or a sheet gives: lines, tables and document 01's figures.
+# What a listing or a sheet gives: lines, tables and the worked figures.
 
 bench_checks() {
-    good "document 01's example" -o "$files/sheet" $here/bench.lst
+    good "the example of bench" -o "$files/sheet" $here/bench.lst
     check "bench's lines" cmp -s "$work/out" crates/bench/stdout
     check "bench's sheet" cmp -s "$files/sheet" crates/bench/stdin
     good "the sheet itself" --sheet crates/bench/stdin
@@ -13,7 +13,7 @@ bench_checks() {
     run --sheet - <crates/bench/stdin
     check "a sheet from -" cmp -s "$work/out" crates/bench/stdout
     run --bench -- $here/bench.lst
-    check "over document 01's memories" cmp -s "$work/out" crates/bench/stdout
+    check "over the memories of bench" cmp -s "$work/out" crates/bench/stdout
 }
 
 # LISTING: how many of its stores land short, and how many it has. What lands short in bench.lst, loop.lst, steps.lst, rows.lst
@@ -33,7 +33,7 @@ listing_checks() {
     done
     lands 1 3 "steps" $here/steps.lst
     check "steps's lines" cmp -s "$work/out" $here/steps.out
-    lands 1 3 "steps over document 01's memories" --bench $here/steps.lst
+    lands 1 3 "steps over the memories of bench" --bench $here/steps.lst
     check "the same lines" cmp -s "$work/out" $here/steps.out
     awk '{ printf "%s\r\n", $0 }' $here/steps.lst >"$work/crlf"
     lands 1 3 "lines that end in CR LF" "$work/crlf"
@@ -64,8 +64,8 @@ against_bench() {
     check "blocks as bench has it" cmp -s "$work/out" "$work/bench"
 }
 
-# Document 01's figures: CYCLES VALUE of the last step, then the steps, one an argument; the options in $with, and how many of how
-# many stores land short in $shorts
+# The worked figures (docs/RULES.md, "Figures"): CYCLES VALUE of the last step, then the steps, one an argument; the options in
+# $with, and how many of how many stores land short in $shorts
 with=
 shorts='0 0'
 figure() {

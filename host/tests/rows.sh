@@ -1,4 +1,5 @@
-# Rows of data accesses (document 02, W-204): what they cost, what keeps and what ends them, and that a board carries them on.
+# Rows of data accesses (docs/RULES.md, "Sequential accesses"): what they cost, what keeps and what ends them, and that a board
+# carries them on.
 
 # The cycles of the lines in $work/out
 cycles() { sed '$d' "$work/out" | cut -d' ' -f2 | tr '\n' ' '; }

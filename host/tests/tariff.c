@@ -85,7 +85,7 @@ static bts_bill bill(struct lent *l, uint32_t rate) {
 
 /* ---- accepted */
 
-/* The request's rule. A sheet's total is at most 4,096 times 2^32 - 1, so the product has 64 bits. */
+/* docs/RULES.md, "The charge and the shares". A sheet's total is at most 4,096 times 2^32 - 1, so the product has 64 bits. */
 static uint64_t charge_of(uint64_t total, uint32_t rate) {
     return (total * rate + 999999) / 1000000;
 }

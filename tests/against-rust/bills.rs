@@ -1,5 +1,5 @@
-//! Tariffs for the cases (document 02, W-202): rates, good and bad, and lists of steps whose totals lie where the rounding
-//! changes.
+//! Tariffs for the cases (docs/RULES.md, "The charge and the shares"): rates, good and bad, and lists of steps whose totals lie
+//! where the rounding changes.
 
 use crate::bytes::*;
 use crate::gen::{Memories, Plan, Rng};

@@ -1,7 +1,7 @@
-//! Version 2 sheets (document 02, W-207), worked out by hand from the request's text, document 01's, W-201's, W-204's and
-//! W-206's, apart from the library, from the Rust and from the second readings here. A word in ROM costs, after none or
-//! elsewhere, and going on: 8 or 6 in window 0, 10 or 10 in window 1, 14 or 18 in window 2. In EWRAM it costs 6, in palette and
-//! VRAM 2, in SRAM 5, elsewhere 1. An internal cycle costs 1, and a Thumb fetch 1 in IWRAM, 3 in EWRAM and in ROM.
+//! Version 2 sheets, worked out by hand from the rules (docs/RULES.md, "The two versions", "Blocks", "Did a store land" and "The
+//! ground of a beat" first of all), apart from the library, from the Rust and from the second readings here. A word in ROM costs,
+//! after none or elsewhere, and going on: 8 or 6 in window 0, 10 or 10 in window 1, 14 or 18 in window 2. In EWRAM it costs 6, in
+//! palette and VRAM 2, in SRAM 5, elsewhere 1. An internal cycle costs 1, and a Thumb fetch 1 in IWRAM, 3 in EWRAM and in ROM.
 
 /// The input of a list, in the notation of docs/DIFFERENCES.md: its sheet is of version 2, and it lends a buffer for the grounds.
 pub fn input(list: &str) -> String {

@@ -1,5 +1,5 @@
-//! Inputs gone through one by one for version 2 (document 02, W-207): versions, kinds and the fields of a block, opcodes, and
-//! blocks of each length over the ends of regions, windows, 0x20000 blocks and memories.
+//! Inputs gone through one by one for version 2 (docs/RULES.md, "The two versions"): versions, kinds and the fields of a
+//! block, opcodes, and blocks of each length over the ends of regions, windows, 0x20000 blocks and memories.
 
 use crate::boards::{CODE_EDGES, ROW_EDGES};
 use crate::bytes::*;

@@ -9,8 +9,8 @@ pub const CODE_EDGES: [u32; 14] = [
     0x0A02_0000, 0x0BFF_FFF0, 0x0C00_0000, 0x0C02_0000, 0x0DFE_0000, 0x0DFF_FFF0, 0x0E00_0000,
 ];
 
-/// Where a row of data accesses may break off or go on (W-204): inside a block of each window, at the edges of blocks and of
-/// windows, at the ends of SRAM and of all addresses, and where EWRAM begins.
+/// Where a row of data accesses may break off or go on (docs/RULES.md, "Sequential accesses"): inside a block of each window, at
+/// the edges of blocks and of windows, at the ends of SRAM and of all addresses, and where EWRAM begins.
 pub const ROW_EDGES: [u32; 16] = [
     0x0800_0000, 0x0800_0100, 0x0802_0000, 0x0900_0000, 0x09FE_0000, 0x0A00_0000, 0x0A00_0100, 0x0A02_0000,
     0x0C00_0000, 0x0C00_0100, 0x0C02_0000, 0x0DFE_0000, 0x0E00_0000, 0x1000_0000, 0x0000_0000, 0x0200_0000,

@@ -1,4 +1,4 @@
-//! The byte layouts of documents 01 and 02: sheet, record, answer, board; when a board is sound; and the library's C functions.
+//! The byte layouts of docs/RULES.md: sheet, record, answer, board; when a board is sound; and the library's C functions.
 
 /// What is lent to one run. `lengths` are the seven lengths as given, in the store's order:
 /// EWRAM, IWRAM, I/O, palette, VRAM, OAM, SRAM. Nothing here need be well formed.
@@ -13,11 +13,12 @@ pub struct Case {
     pub lengths: [usize; 7],
     /// What a run under a tariff has besides, where the case is made for one.
     pub tariff: Option<Tariff>,
-    /// What is lent for the grounds (document 02, W-206), where the case is made for them. It need not be long enough.
+    /// What is lent for the grounds, where the case is made for them. It need not be long enough.
     pub grounds: Option<Vec<u8>>,
 }
 
-/// A tariff (document 02, W-202): the lent shares, and the rate in cents per million cycles. Neither need be good.
+/// A tariff (RULES, "The charge and the shares"): the lent shares, and the rate in cents per million cycles. Neither need be
+/// good.
 #[derive(Clone)]
 pub struct Tariff {
     pub shares: Vec<u8>,
@@ -97,7 +98,7 @@ pub const HEADER: usize = 8;
 pub const RECORD: usize = 12;
 pub const ANSWER: usize = 12;
 pub const SHARE: usize = 8;
-/// The grounds of a step, one byte a beat (W-206).
+/// The grounds of a step, one byte a beat (RULES, "The ground of a beat").
 pub const GROUNDS: usize = 32;
 pub const BOARD: usize = 80;
 pub const MOST_RECORDS: usize = 4096;
@@ -111,7 +112,7 @@ pub const RESTART: u8 = 6;
 pub const INSTRUCTION: u8 = 7;
 pub const PC: u8 = 8;
 pub const LATCH: u8 = 9;
-/// These two in version 2 alone (document 02, W-207).
+/// These two in version 2 alone.
 pub const BLOCK_READ: u8 = 10;
 pub const BLOCK_WRITE: u8 = 11;
 
@@ -241,7 +242,7 @@ impl Record {
         matches!(self.kind, BLOCK_READ | BLOCK_WRITE)
     }
 
-    /// The addresses of a block's words (W-207): upwards from its own lowered to a multiple of 4, modulo 2^32.
+    /// The addresses of a block's words (RULES, "Blocks"): upwards from its own lowered to a multiple of 4, modulo 2^32.
     pub fn words(&self) -> impl Iterator<Item = u32> {
         let first = lowered(self.address, 4);
         (0..self.value).map(move |i| first.wrapping_add(4 * i))
@@ -328,7 +329,7 @@ pub struct Board {
     pub vram: u64,
     pub oam: u64,
     pub palette: u64,
-    /// The previous data access (document 02, W-204): its address as lowered, and its size, 0 for none.
+    /// The previous data access (RULES, "Sequential accesses"): its address as lowered, and its size, 0 for none.
     pub prev_addr: u32,
     pub prev_size: u8,
     pub zeros_73: [u8; 7],
@@ -390,7 +391,7 @@ impl Board {
         self.waitcnt & 0x4000 != 0
     }
 
-    /// The rule of document 01 and of document 02's W-204, clause by clause. Addresses are widened, so nothing here wraps.
+    /// RULES, "A sound board", clause by clause. Addresses are widened, so nothing here wraps.
     pub fn sound(&self) -> bool {
         let next = i64::from(self.next);
         let head_addr = i64::from(self.head_addr);

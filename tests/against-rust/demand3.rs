@@ -1,5 +1,6 @@
-//! What demand 3 says of one accepted run and of two: the limits on the total, the columns that agree, the shares with them. What
-//! follows for two previews (W-205), and for the grounds of two runs (W-206).
+//! What is the same for every memory (docs/RULES.md, "What two runs have in common" and "The bounds of a total"), of one accepted
+//! run and of two: the limits on the total, the columns that agree, the shares with them. What follows for two previews, and for
+//! the grounds of two runs.
 
 use crate::bytes::*;
 use crate::grounds::words_of;
@@ -7,7 +8,7 @@ use crate::tariff::shares_of;
 
 /// Where two runs with alike sheets and boards differ in answer bytes 4–7, 9 or 10, in byte 8 of any step but WRITE and BLOCK
 /// WRITE, in the total, or, being under one rate, in a share or the charge. The hits of those two, the bytes that landed, are
-/// compared only where W-201 makes them equal.
+/// compared only where nothing that they hang on differs (RULES, "Did a store land").
 pub fn pair_difference(first: &Case, second: &Case, a: &Outcome, b: &Outcome) -> Option<String> {
     let landings = same_landings(first, second);
     for (k, record) in records_of(&first.sheet).iter().enumerate() {
@@ -72,7 +73,7 @@ pub fn stores_mode(record: &Record) -> bool {
     record.kind == WRITE && lowered(record.address, record.size) == 0x0400_0000
 }
 
-/// Demand 3's limits: I + A + D ≤ total ≤ 19·I + 18·A + D in an accepted run. Each word of a block counts in A (W-207).
+/// RULES, "The bounds of a total": I + A + D ≤ total ≤ 19·I + 18·A + D in an accepted run. Each word of a block counts in A.
 pub fn past_limits(case: &Case, outcome: &Outcome) -> Option<String> {
     if outcome.report.number != 0 {
         return None;

@@ -1,7 +1,7 @@
-//! Figures printed in document 01 and in the comments of the Rust, in the notation of docs/DIFFERENCES.md.
+//! Figures of docs/RULES.md and of the comments of the Rust, in the notation of docs/DIFFERENCES.md.
 
 pub const FIGURES: &[(&str, &str)] = &[
-    // document 01, worked figures
+    // RULES, "Figures"
     ("EWRAM of 262,144 bytes, WRITE 1 of 0x5A at 0x02040005", "EWRAM byte 5 0x5A, changed 1"),
     ("VRAM of 98,304 bytes, WRITE 2 of 0x1234 at 0x06018000", "VRAM byte 0x10000 0x34, VRAM byte 0x10001 0x12, changed 2"),
     ("WAITCNT 0xFFFF", "board WAITCNT 0x5FFF"),
@@ -19,7 +19,7 @@ pub const FIGURES: &[(&str, &str)] = &[
     ("VRAM of 98,304 bytes, WRITE 1 of 3 at 0x04000000, WRITE 1 of 0x5A at 0x06010000, READ 2 at 0x06010000", "value 0x5A5A, VRAM counter 1, changed 3"),
     ("VRAM of 98,304 bytes, WRITE 1 of 3 at 0x04000000, WRITE 1 of 0x5A at 0x06014000", "VRAM counter 0, changed 1"),
     ("SRAM of 32,768 bytes, WRITE 1 of 0x11 at 0x0E000000, WRITE 1 of 0x5A at 0x0E008000, READ 1 at 0x0E008000", "value 0x11, changed 1"),
-    // document 01, the modules
+    // RULES, "What a data access costs"
     ("READ 1 at 0x02000000, READ 2 at 0x02000000, READ 4 at 0x02000000", "cycles 3, 3, 6"),
     ("READ 1 at 0x06000000, READ 2 at 0x05000000, READ 4 at 0x06000000", "cycles 1, 1, 2"),
     ("READ 4 at 0x07000000, READ 4 at 0x03000000, READ 4 at 0x04000000, READ 4 at 0x00000000", "cycles 1, 1, 1, 1"),

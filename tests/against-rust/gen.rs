@@ -255,8 +255,8 @@ pub fn accepted(rng: &mut Rng, version: Version, large: usize) -> Plan {
     plan
 }
 
-/// Two runs that are accepted, under one rate and with grounds, with alike sheets and alike boards, all else different (demand
-/// 3), but in half of the pairs the lengths and the display modes, so that what lands must agree too (W-201).
+/// Two runs that are accepted, under one rate and with grounds, with alike sheets and alike boards, all else different, but in
+/// half of the pairs the lengths and the display modes, so that what lands must agree too (docs/RULES.md, "Did a store land").
 pub fn pair(seed: u64) -> (Case, Case) {
     let mut rng = Rng::new(seed);
     let version = rng.pick(&VERSIONS);
@@ -292,7 +292,7 @@ fn alike_record(rng: &mut Rng, r: Record, keep_mode: bool) -> Record {
     }
 }
 
-/// The board with other bytes 20–35 and 40–67: the previous access stays, as it must (W-204).
+/// The board with other bytes 20–35 and 40–67: the previous access stays, as it must (RULES, "Alike sheets and boards").
 fn alike_board(rng: &mut Rng, b: Board) -> Board {
     let other = boards::any_sound(rng);
     Board {

@@ -1,4 +1,4 @@
-//! Grounds of prices (document 02, W-206), worked out by hand from the request's text, document 01's and W-204's, apart from the
+//! Grounds of prices, worked out by hand from the rules (docs/RULES.md, "The ground of a beat" first of all), apart from the
 //! library, from the Rust and from grounds.rs. A halfword costs N or S: 5 or 3 in window 0, 5 or 5 in window 1, 5 or 9 in window
 //! 2; after WAITCNT 0x0240 they are 5 or 3, 3 or 5, 3 or 9. Neither 0xE1A00000 nor 0x1C00 has an internal cycle.
 

@@ -1,5 +1,6 @@
-//! Inputs gone through one by one for the grounds (document 02, W-206): lengths of what is lent for them, refusals, code around
-//! each edge with the force flag and the buffer, code in each page and by each WAITCNT, accesses under flag and buffer.
+//! Inputs gone through one by one for the grounds (docs/RULES.md, "The ground of a beat"): lengths of what is lent for them,
+//! refusals, code around each edge with the force flag and the buffer, code in each page and by each WAITCNT, accesses under flag
+//! and buffer.
 
 use crate::boards::{CODE_EDGES, ROW_EDGES};
 use crate::bytes::*;

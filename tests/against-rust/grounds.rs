@@ -1,6 +1,6 @@
-//! Why a step has the price that it has (document 02, W-206): a second reading of the request's text, apart from the library. The
-//! Rust has no grounds. What decides a price is asked of its own functions, and this puts their answers into the request's order;
-//! the grounds that come out are then held against the Rust's price, by waits at which each of them shows.
+//! Why a step has the price that it has: a second reading of the rule (docs/RULES.md, "The ground of a beat"), apart from the
+//! library. The Rust has no grounds. What decides a price is asked of its own functions, and this puts their answers into the
+//! rule's order; the grounds that come out are then held against the Rust's price, by waits at which each of them shows.
 
 use crate::bytes::*;
 use crate::machine::{access_size, data_price, kind_after, opcode_for_rust, refusal_with_second, refused, Access, Ran};
@@ -83,7 +83,7 @@ fn of_data(moment: &Moment, r: &Record) -> Vec<Ground> {
     grounds
 }
 
-/// Those of a block's words (W-207), in order: the first follows what was before the block, and each other the one before it.
+/// Those of a block's words, in order: the first follows what was before the block, and each other the one before it.
 fn of_block(moment: &Moment, r: &Record) -> Vec<Ground> {
     let mut before = *moment;
     let mut grounds = Vec::new();

@@ -1,4 +1,4 @@
-//! How many memory bytes a store writes (document 02, W-201), told by the Rust's own store and by no rule of ours.
+//! How many memory bytes a store writes (docs/RULES.md, "Did a store land"), told by the Rust's own store and by no rule of ours.
 //!
 //! The Rust doesn't report it, and a look at the memories before and after doesn't show it: a byte may be stored over its
 //! like. So the store is also done on two probes, memories of the same lengths in which every byte is the complement of the

@@ -1,5 +1,5 @@
-//! How many bytes of a store land (document 02, W-201), worked out by hand from the request's text and document 01's, apart from
-//! the library and from the Rust's store.
+//! How many bytes of a store land, worked out by hand from the rules (docs/RULES.md, "Did a store land" and "Stores"), apart
+//! from the library and from the Rust's store.
 
 /// The value that is stored, by its low bits: none of its bytes is 0, as those of the memories are.
 const VALUE: &str = "0x12345678";

@@ -1,9 +1,9 @@
-//! Document 01's run, done by calling the unchanged Rust: this is what the library is held against.
-//! The refusals, the order of a step's calls and the data price are document 01's own ("added"); the hits of a WRITE, the
-//! bytes that landed, are document 02's (W-201), and landed.rs has them from the Rust's store. Which access is the previous one,
-//! and which steps forget it, is document 02's too (W-204); what follows for the price is told by the Rust. Why each step has the
-//! price that it has (W-206) is told by grounds.rs, which is shown the machine before each. A block (W-207) is the Rust's access
-//! once a word; where version 2 looks for Thumb's POP is W-207's, and what follows from that is the Rust's.
+//! A run by the rules (docs/RULES.md), done by calling the unchanged Rust: this is what the library is held against.
+//! The refusals, the order of a step's calls and the data price are added rules, so written here; the hits of a WRITE, the
+//! bytes that landed, are added too, and landed.rs has them from the Rust's store. Which access is the previous one, and which
+//! steps forget it, is written here by RULES, "Sequential accesses"; what follows for the price is told by the Rust. Why each
+//! step has the price that it has is told by grounds.rs, which is shown the machine before each. A block is the Rust's access
+//! once a word; where version 2 looks for Thumb's POP is an added rule, and what follows from that is the Rust's.
 
 use crate::bytes::*;
 use crate::grounds::{self, Ground, Moment};
@@ -72,7 +72,7 @@ pub fn refused(case: &Case, (number, index): (u32, u32), second: &[u8]) -> Outco
     }
 }
 
-/// The first condition of document 01's table that is met, as (number, index).
+/// The first row that holds of the table of RULES, "What a run is refused with", as (number, index).
 pub fn refusal(case: &Case) -> Option<(u32, u32)> {
     let sheet = &case.sheet;
     if sheet.len() < HEADER || sheet[0..3] != *b"BTS" {
@@ -94,7 +94,7 @@ pub fn refusal(case: &Case) -> Option<(u32, u32)> {
     if case.answers.len() < ANSWER * n {
         return Some((6, 0));
     }
-    // document 01's two passes, where the library has one (document 02, W-203): the lowest record faulty in either
+    // in two passes, where the library has one: the lowest record faulty in either
     let records = records_of(sheet);
     let by_kind = records.iter().position(|r| r.kind_or_size_faulty(version));
     let by_fields = records.iter().position(Record::fields_faulty);
@@ -334,8 +334,8 @@ impl Machine {
 // ---- the test for an internal cycle ----
 
 /// The opcode that the Rust is asked about. In version 2 Thumb POP is found at 0xBC and 0xBD and no longer at 0xBA and 0xBB
-/// (W-207), where the Rust has it the other way round: for each of these four it is asked about the one that differs in the two
-/// bits 0x06. No price looks at the opcode but for this test.
+/// (RULES, "Internal cycles"), where the Rust has it the other way round: for each of these four it is asked about the one that
+/// differs in the two bits 0x06. No price looks at the opcode but for this test.
 pub fn opcode_for_rust(version: Version, size: u8, opcode: u32) -> u32 {
     match (version, size, opcode >> 8 & 0xFF) {
         (Version::Two, 2, 0xBA..=0xBD) => opcode ^ 0x0600,
@@ -348,7 +348,7 @@ pub fn opcode_for_rust(version: Version, size: u8, opcode: u32) -> u32 {
 /// A data access that is the previous one for the next: its address as lowered, and its size.
 pub type Access = (u32, AccessSize);
 
-/// The price after a previous access, if there was one: W-204's in ROM, else document 01's.
+/// The price after a previous access, if there was one, which counts in ROM alone.
 pub fn data_price(tables: WaitTables, previous: Option<Access>, size: u8, address: u32) -> u32 {
     match RomWindow::from_addr(address) {
         Some(window) => rom_price(tables, previous, access_size(size), lowered(address, size), window),
@@ -364,7 +364,7 @@ pub fn kind_after(previous: Option<Access>, at: u32) -> AccessKind {
     }
 }
 
-/// W-204's price in ROM, at the lowered address.
+/// The price in ROM, at the lowered address (RULES, "Sequential accesses").
 fn rom_price(tables: WaitTables, previous: Option<Access>, size: AccessSize, at: u32, window: RomWindow) -> u32 {
     let first = tables.rom_half_cycles_at(at, window, kind_after(previous, at));
     match size {
@@ -373,7 +373,7 @@ fn rom_price(tables: WaitTables, previous: Option<Access>, size: AccessSize, at:
     }
 }
 
-/// Document 01's data price elsewhere, by the region of the address.
+/// The price elsewhere, by the region of the address (RULES, "What a data access costs").
 fn plain_price(tables: WaitTables, size: AccessSize, address: u32) -> u32 {
     match decode(address) {
         Region::Ewram => tables.ewram_cycles(size),

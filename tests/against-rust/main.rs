@@ -1,4 +1,4 @@
-//! Compares `bts_run`, `bts_run_tariff`, `bts_run_grounds` and `bts_preview` of libbts.a with document 01's run done by the Rust,
+//! Compares `bts_run`, `bts_run_tariff`, `bts_run_grounds` and `bts_preview` of libbts.a with the same run done by the Rust,
 //! byte for byte. See README.md for what is compared and how to run it.
 
 mod bills;
@@ -289,7 +289,7 @@ impl Tally {
         self.case(&format!("bill:{seed}"), &case, plan.meant());
     }
 
-    /// Demand 3 on two runs, and what follows for their grounds and for two previews.
+    /// What two runs have in common (docs/RULES.md), and what follows for their grounds and for two previews.
     fn pair(&mut self, seed: u64) {
         let name = format!("pair:{seed}");
         let (first, second) = gen::pair(seed);

@@ -1,4 +1,4 @@
-//! What a preview gives (document 02, W-205): a second reading of the request's text, apart from the library. The Rust has no
+//! A preview: a second reading of the rule (docs/RULES.md, "What a preview gives"), apart from the library. The Rust has no
 //! preview, so that this has it from the Rust's run on a copy (machine.rs), over whatever memories the case lends: a preview is
 //! lent none of them.
 
@@ -45,8 +45,7 @@ fn shown(lent: &Case, run: &Outcome) -> Outcome {
     Outcome { report: run.report, board: lent.board.clone(), store: Vec::new(), answers, second: Vec::new() }
 }
 
-/// The bytes of an answer that a preview doesn't tell: the value of READ and FETCH, the hits of WRITE; of blocks the same
-/// (W-207).
+/// The bytes of an answer that a preview doesn't tell: the value of READ and FETCH, the hits of WRITE; of blocks the same.
 fn zeros(kind: u8) -> std::ops::Range<usize> {
     match kind {
         READ | FETCH | BLOCK_READ => 0..4,

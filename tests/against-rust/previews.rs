@@ -1,4 +1,4 @@
-//! Previews beside runs (document 02, W-205), worked out by hand from the request's text and document 01's, apart from the
+//! Previews beside runs, worked out by hand from the rules (docs/RULES.md, "What a preview gives" first of all), apart from the
 //! library and from preview.rs.
 
 /// A list of steps, what is claimed of its run and what of its preview, in the notation of docs/DIFFERENCES.md. Besides, in a

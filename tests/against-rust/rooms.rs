@@ -1,4 +1,4 @@
-//! Lengths of the second buffer, which is lent for what is told of each step: shares (document 02, W-202) or grounds (W-206).
+//! Lengths of the second buffer, which is lent for what is told of each step: shares or grounds.
 
 use crate::bytes::*;
 use crate::gen::Rng;

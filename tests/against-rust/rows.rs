@@ -1,11 +1,11 @@
-//! Prices of data accesses in a row (document 02, W-204), worked out by hand from the request's text, apart from the library and
-//! from the Rust. A halfword costs N or S: 5 or 3 in window 0, 5 or 5 in window 1, 5 or 9 in window 2; after WAITCNT 0x0240 they
-//! are 5 or 3, 3 or 5, 3 or 9, and after 0x0490 all are 5 or 2.
+//! Prices of data accesses in a row, worked out by hand from the rule (docs/RULES.md, "Sequential accesses"), apart from the
+//! library and from the Rust. A halfword costs N or S: 5 or 3 in window 0, 5 or 5 in window 1, 5 or 9 in window 2; after WAITCNT
+//! 0x0240 they are 5 or 3, 3 or 5, 3 or 9, and after 0x0490 all are 5 or 2.
 
 /// A list of steps, and what is claimed, in the notation of docs/DIFFERENCES.md; besides, `board previous 4 at 0x08000100` is a
 /// board whose previous access was of that size at that lowered address, and `previous` is the one that the run leaves.
 pub const ROWS: &[(&str, &str)] = &[
-    // with no previous access every price is document 01's
+    // with no previous access: N first in ROM, and elsewhere the region's price
     ("READ 1 at 0x08000103", "5 cycles, previous 1 at 0x08000103"),
     ("READ 2 at 0x08000102", "5 cycles, previous 2 at 0x08000102"),
     ("READ 4 at 0x08000104", "8 cycles, previous 4 at 0x08000104"),

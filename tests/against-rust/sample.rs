@@ -92,7 +92,7 @@ pub fn prefetch_on() -> Board {
     Board { waitcnt: 0x4000, ..Board::default() }
 }
 
-/// The lists of steps of document 01's figures and of the rows worked out by hand, over filled memories.
+/// The lists of steps of figures.rs and of the rows worked out by hand, over filled memories.
 fn figures(plans: &mut Vec<Plan>) {
     for (input, _) in FIGURES.iter().chain(ROWS) {
         let case = notation::case_of(input).unwrap();
@@ -172,7 +172,7 @@ fn fills(plans: &mut Vec<Plan>) {
     }
 }
 
-/// WAITCNT values for rows (W-204): by either, S and N differ in each window. By the first S is the dearer in two of them.
+/// WAITCNT values for rows: by either, S and N differ in each window. By the first S is the dearer in two of them.
 const N_NOT_S: [u16; 2] = [0x0240, 0x0490];
 
 /// Each two accesses around each edge, the first of one size.
@@ -320,7 +320,7 @@ fn full_memories(plans: &mut Vec<Plan>) {
     }
 }
 
-/// Stores across the end of each memory, of each length modulo 4, in modes 0–3 and 7, 4, 5, 2: what of them lands (W-201).
+/// Stores across the end of each memory, of each length modulo 4, in modes 0–3 and 7, 4, 5, 2: what of them lands.
 fn memory_ends(plans: &mut Vec<Plan>) {
     for (more, [mode, with_objects]) in [[0, 7], [1, 4], [2, 5], [3, 2]].into_iter().enumerate() {
         plans.push(end_plan(mode, ENDS[0], more));

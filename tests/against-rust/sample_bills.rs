@@ -1,4 +1,4 @@
-//! The sample's cases under a tariff (document 02, W-202), which stand behind all other version 1 runs without grounds.
+//! The sample's cases under a tariff, which stand behind all other version 1 runs without grounds.
 
 use crate::bills::{self, MILLION};
 use crate::bytes::*;

@@ -1,5 +1,5 @@
-//! The sample's version 2 sheets (document 02, W-207), which stand behind all others: runs, runs under a tariff, runs with
-//! grounds, and then previews.
+//! The sample's version 2 sheets, which stand behind all others: runs, runs under a tariff, runs with grounds, and then
+//! previews.
 
 use crate::bills;
 use crate::block_lists::{self, LISTS};

@@ -1,4 +1,4 @@
-//! The sample's version 1 runs with grounds (document 02, W-206), which stand behind all other cases of that version.
+//! The sample's version 1 runs with grounds, which stand behind all other cases of that version.
 
 use crate::boards::CODE_EDGES;
 use crate::bytes::*;

@@ -1,4 +1,4 @@
-//! The sample's previews (document 02, W-205), which stand behind the version 1 runs. They lend no memories.
+//! The sample's previews, which stand behind the version 1 runs. They lend no memories.
 
 use crate::boards;
 use crate::bytes::*;

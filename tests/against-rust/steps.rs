@@ -51,13 +51,13 @@ const ARM: [(u32, u32); 9] = [
 const THUMB: [u32; 12] =
     [0x48, 0x4F, 0x68, 0x6F, 0x98, 0x9F, 0xC8, 0xCF, 0xBA, 0xBB, 0xBC, 0x1C];
 
-/// The opcode bytes by which the versions differ (W-207).
+/// The opcode bytes by which the versions differ (docs/RULES.md, "Internal cycles").
 const POPS: [u32; 4] = [0xBA, 0xBB, 0xBC, 0xBD];
 
 /// Where a block may change something that others look at: I/O byte 0, which has the display mode, and the video memories.
 const SEEN_AGAIN: [u32; 5] = [0x0400_0000, 0x0500_0000, 0x0600_0000, 0x0601_0000, 0x0700_0000];
 
-/// A READ or a WRITE, for which W-204 has one rule.
+/// A READ or a WRITE, which go on from each other by one rule (RULES, "Sequential accesses").
 pub fn load_or_store(rng: &mut Rng, size: u8, address: u32) -> Record {
     if rng.percent(60) { Record::new(READ, size, address, 0) } else { Record::new(WRITE, size, address, rng.u32()) }
 }
@@ -115,7 +115,7 @@ impl<'a> Steps<'a> {
     }
 
     /// Rows of data accesses at rising addresses over the places where one may break off, the first where the board's previous
-    /// access ended; steps of all other kinds between (W-204).
+    /// access ended; steps of all other kinds between.
     pub fn rows(mut self, n: usize, board: &Board) -> Vec<Record> {
         let mut at = board.prev_end().unwrap_or_else(|| row_place(self.rng));
         (0..n).map(|_| self.row_step(&mut at)).collect()

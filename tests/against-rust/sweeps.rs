@@ -397,7 +397,7 @@ fn around(base: u32, length: usize, size: usize) -> Vec<Record> {
     records
 }
 
-/// Stores of all sizes across the end of each memory, which is of each length modulo 4, in each display mode (W-201).
+/// Stores of all sizes across the end of each memory, which is of each length modulo 4, in each display mode.
 fn ends(visit: &mut dyn FnMut(Plan)) {
     for mode in 0..8 {
         for more in 0..4 {
@@ -437,7 +437,7 @@ pub fn end_plan(mode: u32, lengths: [usize; 7], more: usize) -> Plan {
     Plan::accepted(Board::default(), &memories, &records)
 }
 
-// ---- tariffs (W-202) ----
+// ---- tariffs ----
 
 /// Rates around both ends and around each power of two, and those that are a good rate but for one bit.
 fn rates(visit: &mut dyn FnMut(Plan)) {
@@ -511,7 +511,7 @@ fn each_cent(rate: u32) -> Vec<Record> {
     steps.take(MOST_RECORDS).collect()
 }
 
-// ---- rows of data accesses (W-204) ----
+// ---- rows of data accesses ----
 
 /// Each access after each other one: the places and sizes of both around each edge, by each of the waits.
 fn rows(visit: &mut dyn FnMut(Plan)) {

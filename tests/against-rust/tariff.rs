@@ -1,5 +1,6 @@
-//! What a tariff makes of a run (document 02, W-202): a second reading of the request's text, apart from the library. The Rust
-//! has no tariff, so the run itself is the Rust's as it is without one (machine.rs), and this adds charge, shares and refusals.
+//! What a tariff makes of a run: a second reading of the rule (docs/RULES.md, "The charge and the shares"), apart from the
+//! library. The Rust has no tariff, so the run itself is the Rust's as it is without one (machine.rs), and this adds charge,
+//! shares and refusals.
 
 use crate::bytes::*;
 use crate::machine::{refusal_with_second, refused};
@@ -23,8 +24,8 @@ pub fn under(case: &Case, tariff: &Tariff, plain: &Outcome) -> Outcome {
     Outcome { report: Bill { charge, ..plain.report }, second: shares, ..plain.clone() }
 }
 
-/// The first condition that is met, as (number, index): those of document 01's table in its order, short shares beside short
-/// answers, and the rate after them all.
+/// The first condition that is met, as (number, index): a run's in their order, short shares beside short answers, and the
+/// rate after them all (RULES, "What a run under a tariff is refused with").
 fn refusal(case: &Case, tariff: &Tariff, plain: &Bill) -> Option<(u32, u32)> {
     let rate = u128::from(tariff.rate);
     let bad_rate = (rate == 0 || rate > MILLION).then_some((8, 0));

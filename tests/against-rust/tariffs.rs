@@ -1,5 +1,5 @@
-//! Shares and charges (document 02, W-202), worked out by hand from the request's text, apart from the library and from
-//! tariff.rs.
+//! Shares and charges, worked out by hand from the rule (docs/RULES.md, "The charge and the shares"), apart from the library and
+//! from tariff.rs.
 
 /// A rate with a list of steps, and what is claimed, in the notation of docs/DIFFERENCES.md; `shares` are those of the last
 /// steps.

@@ -1,5 +1,5 @@
-//! What a block stands for (document 02, W-207), by the library alone: a sheet gives the same as one in which each block is
-//! written out as the accesses that it stands for, read from the request's text once more and by neither machine.rs nor the Rust.
+//! What a block stands for, by the library alone: a sheet gives the same as one in which each block is written out as the
+//! accesses that it stands for, read from the rule (docs/RULES.md, "Blocks") once more and by neither machine.rs nor the Rust.
 
 use crate::bytes::*;
 use crate::compare::Call;

@@ -1,4 +1,4 @@
-//! Times `bts_run` of libbts.a against document 01's run done by the Rust, on the same sheets and memories, shows that the cost
+//! Times `bts_run` of libbts.a against the same run done by the Rust, on the same sheets and memories, shows that the cost
 //! of a step doesn't grow, times `bts_run_tariff`, `bts_preview` and `bts_run_grounds` against `bts_run`, and a word of a block
 //! against a record. See README.md for what is timed and what the columns mean.
 

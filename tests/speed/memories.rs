@@ -68,7 +68,7 @@ impl Memories {
         }
     }
 
-    /// The library's run with the grounds of each step (document 02, W-206) over these memories.
+    /// The library's run with the grounds of each step over these memories.
     #[inline(never)]
     pub fn run_grounds(&mut self, sheet: &[u8], board: &mut [u8], answers: &mut [u8], grounds: &mut [u8]) -> Report {
         let [ewram, iwram, io, palette, vram, oam, sram] = self.lengths;

@@ -1,8 +1,8 @@
-//! The Rust's side: document 01's run done by the Rust's own functions, as leanly as it can be called.
+//! The Rust's side: a run (docs/RULES.md, "How a run goes") done by the Rust's own functions, as leanly as it can be called.
 //! Nothing is allocated or copied in a run but the 80 bytes of the board: the memories are the bus's own `Vec`s, set up before.
 //! It does the same work as `bts_run`: it examines header, board and records, runs, counts the bytes that each store writes,
 //! keeps the previous data access, and writes answers and board.
-//! Of version 2 (document 02, W-207) it has the blocks, and not the other opcodes of Thumb's POP: no version 2 sheet here has an
+//! Of version 2 it has the blocks, and not the other opcodes of Thumb's POP: no version 2 sheet here has an
 //! INSTRUCTION, and the four sorts of version 1 would pay for it.
 
 use crate::bus::mirror::{io_offset, vram_offset};
@@ -96,7 +96,7 @@ impl Machine {
 
     // ---- the examination ----
 
-    /// The first condition of document 01's table that is met, as (number, index).
+    /// The first row that holds of the table of RULES, "What a run is refused with", as (number, index).
     fn refusal(&self, sheet: &[u8], board: &[u8], answers: &[u8]) -> Option<(u32, u32)> {
         if sheet.len() < HEADER || sheet[0..3] != *b"BTS" {
             return Some((1, 0));
@@ -268,8 +268,8 @@ impl Machine {
         }
     }
 
-    /// The number of memory bytes that a store writes (document 02, W-201), which the Rust's store doesn't tell: those from the
-    /// lowered place up to the memory's end, but no more than the store's width there.
+    /// The number of memory bytes that a store writes (RULES, "Did a store land"), which the Rust's store doesn't tell: those
+    /// from the lowered place up to the memory's end, but no more than the store's width there.
     #[inline(always)]
     fn landed(&self, size: u8, address: u32) -> u8 {
         let top = (address >> 24).min(16);
@@ -341,8 +341,8 @@ impl Machine {
         hits
     }
 
-    /// The price of a data access: by the region of its address, and in ROM by the previous one too (document 02, W-204), which
-    /// it is itself from now on.
+    /// The price of a data access: by the region of its address, and in ROM by the previous one too, which it is itself from now
+    /// on (RULES, "Sequential accesses").
     #[inline(always)]
     fn data_price(&mut self, size: u8, address: u32) -> u32 {
         let tables = self.bus.wait_tables;

@@ -66,7 +66,7 @@ fn write(rng: &mut Rng) -> Record {
     Record::new(WRITE, size, data_address(rng, size), rng.u32())
 }
 
-/// A block of so many words, at such a place as a READ or a WRITE of a word has (document 02, W-207).
+/// A block of so many words, at such a place as a READ or a WRITE of a word has.
 fn block(rng: &mut Rng, kind: u8, words: u32) -> Record {
     Record::new(kind, 4, data_address(rng, 4), words)
 }
@@ -150,11 +150,11 @@ pub static SORTS: [Sort; 5] = [
     in_one("IDLE 1, always filling (not judged)", "filling", false, idle_1_filling),
 ];
 
-/// In none of the sorts above does an access to ROM go on where the one before it ended (document 02, W-204). This one has a
+/// In none of the sorts above does an access to ROM go on where the one before it ended. This one has a
 /// table of its own, since one sheet more between those of the first makes all of them slower.
 pub static ROWS: Sort = in_one("READ and WRITE in rows (not judged)", "rows", false, copies);
 
-/// Blocks (document 02, W-207) have tables of their own for the same reason.
+/// Blocks have tables of their own for the same reason.
 pub static BLOCKS: Sort = blocks_of("BLOCK READ and BLOCK WRITE", "blocks", blocks);
 
 /// Blocks of the most words, of one kind a sheet and at the same places, to be held against a record for each word.

@@ -210,9 +210,9 @@ fn priced(kind: u8) -> Priced {
     }
 }
 
-/// What a preview gives where a run of the same sheet gave this (document 02, W-205): the answers but for what it doesn't tell,
-/// and the board as lent. A table and no jump on each record's kind: what is done between two runs must not make the processor
-/// forget their branches.
+/// What a preview gives (docs/RULES.md) where a run of the same sheet gave this: the answers but for what it doesn't tell, and
+/// the board as lent. A table and no jump on each record's kind: what is done between two runs must not make the processor forget
+/// their branches.
 fn previewed(sheet: &[u8], run: Given) -> Given {
     let Given { report, mut answers, .. } = run;
     let told: [[u8; ANSWER]; KINDS] = std::array::from_fn(|kind| told(kind as u8));
@@ -235,7 +235,7 @@ fn told(kind: u8) -> [u8; ANSWER] {
     bits
 }
 
-/// What blocks give where the records of their words gave this (document 02, W-207): one answer a block, with the cycles and the
+/// What blocks give where the records of their words gave this (RULES, "Blocks"): one answer a block, with the cycles and the
 /// bytes that landed of all its words, and else what its last word left. What lies behind the answers stays as it was.
 fn joined(sheet: &[u8], apart: Given) -> Given {
     let Given { report, board, answers } = apart;
