@@ -25,7 +25,7 @@ static uint8_t unread[BTS_ANSWER_SIZE * BTS_MOST_RECORDS];
 /* The run of an accepted sheet on its board, without the memories: for its grounds, which neither the tariff nor the preview
  * writes, and for the board behind a preview, which leaves none. The grounds are the same over any memories (docs/RULES.md,
  * "What two runs have in common"), and so is all of that board that a cycle, a count, a flag or a ground follows from (theorem
- * `run-clock`, docs/PROVED.md). The rest of it (halfwords and counters) may be another, and nothing that a preview gives shows
+ * `run_clock`, docs/PROVED.md). The rest of it (halfwords and counters) may be another, and nothing that a preview gives shows
  * it. */
 static void run_bare(const uint8_t *sheet, size_t len, uint8_t *board, uint8_t *grounds) {
     struct machine bare = {.board = {board, BTS_BOARD_SIZE}};
