@@ -89,7 +89,7 @@ pub fn examine_board(board: &[u8]) -> Result<(), Refusal>
 }
 
 // Room for the answers of n records.
-fn examine_answers(n: usize, answers: usize) -> Result<(), Refusal>
+pub fn examine_answers(n: usize, answers: usize) -> Result<(), Refusal>
     requires { n ≤ max_records }
     ensures { result ≡ def.first_row (def.answers_rows n answers) }
 {
@@ -100,7 +100,7 @@ fn examine_answers(n: usize, answers: usize) -> Result<(), Refusal>
 }
 
 // Room for the answers of n records, and for `each` bytes a record in a second buffer.
-fn examine_room(n: usize, answers: usize, each: usize, second: usize) -> Result<(), Refusal>
+pub fn examine_room(n: usize, answers: usize, each: usize, second: usize) -> Result<(), Refusal>
     requires { RoomAsked n each }
     ensures { result ≡ def.first_row (def.room_rows n answers each second) }
 {
@@ -132,6 +132,26 @@ pub fn examine_rate(rate: u32) -> Result<(), Refusal>
 
 // ---- the tables
 
+// The rows with which the table of every run begins: the sheet's head, the lengths, the board. Of store, BIOS and ROM the lengths
+// alone are asked, so that a caller need not have them yet.
+pub fn examine_lent<'s>(
+    sheet: &'s [u8],
+    board: &[u8],
+    lengths: Lengths,
+    store: usize,
+    bios: usize,
+    rom: usize,
+) -> Result<Sheet<'s>, Refusal>
+    ensures verdict { verdict_of result ≡ def.first_row (def.sheet_rows sheet.now
+        ++ (def.lengths_rows lengths store bios rom ++ def.board_rows board.now)) }
+    ensures same { IfOk result (λ s. s.bytes.now ≡ sheet.now) }
+{
+    let accepted = examine_sheet(sheet)?;
+    examine_lengths(lengths, store, bios, rom)?;
+    examine_board(board)?;
+    Ok(accepted)
+}
+
 // The rows with which the table of a run and of a preview ends: room for the answers, and the records.
 fn examine_rest(sheet: Sheet<'_>, answers: usize) -> Result<(), Refusal>
     ensures { result ≡ def.first_row (rest_rows sheet.entry.bytes.now answers) }
@@ -154,20 +174,19 @@ pub struct Lent<'s, 'a> {
 }
 
 impl<'s, 'a> Lent<'s, 'a> {
-    // The rows with which the table of every run begins: the sheet's head, the lengths, the board.
+    // The rows with which the table of every run begins.
     fn examine_lent(self) -> Result<Sheet<'s>, Refusal>
         ensures verdict { verdict_of result ≡ def.first_row (def.lent_rows (lent self.entry)) }
         ensures same { IfOk result (λ s. s.bytes.now ≡ self.entry.sheet.now) }
     {
-        let sheet = examine_sheet(self.sheet)?;
-        examine_lengths(
+        examine_lent(
+            self.sheet,
+            self.board,
             self.lengths,
             self.store.len(),
             self.bios.len(),
             self.rom.len(),
-        )?;
-        examine_board(self.board)?;
-        Ok(sheet)
+        )
     }
 
     // The first row of the run's table that holds.
