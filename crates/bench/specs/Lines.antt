@@ -1,4 +1,4 @@
--- What the printing functions write, by the bytes that they read.
+-- What the printing functions write, by the bytes that they read; and what of a line waits for its end.
 use Rattle.std.specs.Prelude.{List, ◌++◌, ℕ, take, drop, decimal, codes, flat_map, Option, Some, None, [], ◌==◌}
 use Rattle.std.specs.Prelude.{if◌then◌else◌}
 use Rattle.model.specs.Base.{byte_at, number}
@@ -7,6 +7,7 @@ use Rattle.model.specs.Alike.{answer_start}
 use Rattle.model.specs.Grounds.{ground_name, beat_ground, grounds_length, grounds_start}
 use Rattle.model.specs.declared.Ground.{Ground}
 use Rattle.bts.specs.declared.Report.{Report}
+use Rattle.bench.specs.declared.line.Line.{Line}
 use Rattle.bench.specs.Text.{spaced, lines, total_text, refusal_text}
 
 -- of what a byte says
@@ -38,3 +39,9 @@ lines_read answers grounds n =
 abbrev pub report_read : Report → List ℕ → List ℕ → List ℕ
 report_read r answers grounds =
     if r.number == 0 then lines_read answers grounds r.index ++ total_text r.total else refusal_text r.number r.index
+
+-- ---- of a line that is being made
+
+-- what was written into it
+abbrev pub line_bytes : Line → List ℕ
+line_bytes line = take line.len line.bytes

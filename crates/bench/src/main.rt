@@ -2,10 +2,13 @@
 // ROM, and writes a line for each record (index, cycles, value, hits, prefetch count, force flag, and then the grounds of its
 // price, a word a beat) and the total, or the refusal. A refusal, and input or output that fails, are told on standard error too.
 // The exit status is 0 for figures, 1 for a refusal, 2 for input or output that fails. What is written is said by contracts over
-// any writer, since what a terminal or a pipe gets no contract can say.
+// any writer, since what a terminal or a pipe gets no contract can say. Each line goes out in one write (line.rt).
 #![tactic(auto)]
 
+mod line;
+
 ghost use Rattle.std.specs.Prelude.{◌≡◌, ◌≤◌, ◌*◌, length, take, IfOk, OnOk, IfSome};
+ghost use Rattle.std.specs.Fmt.{with_newline};
 ghost use Rattle.std.specs.Process.{exit_status};
 ghost use Rattle.std.specs.Io.KnownBytes.{Appends};
 ghost use Rattle.model.specs.BoardBytes.{answer_length};
@@ -15,9 +18,11 @@ ghost use Rattle.bench.specs.Lines.{beat_text, beats_text, numbers_read, line_re
 
 use bts::Report;
 use grounds::names::{beat_ground, ground_name};
+use line::Line;
 use model::{
     ANSWER_LENGTH, GROUNDS_LENGTH, Ground, HEADER_LENGTH, Lengths, MAX_RECORDS, RECORD_LENGTH,
 };
+use std::fmt::Display;
 use std::io;
 use std::io::{Read, Write};
 use std::process::ExitCode;
@@ -90,13 +95,24 @@ fn print_numbers<W: Write>(out: &mut W, k: usize, answer: &[u8]) -> io::Result<(
     write!(out, "{k} {cycles} {value} {hits} {count} {force}")
 }
 
-// Its line.
-fn print_answer<W: Write>(out: &mut W, k: usize, answer: &[u8], grounds: &[u8]) -> io::Result<()>
+// Its line, part by part.
+fn print_parts<W: Write>(out: &mut W, k: usize, answer: &[u8], grounds: &[u8]) -> io::Result<()>
     ensures { OnOk result (Appends (W.contents out.old) (W.contents out.new) (line_read k answer.now grounds.now)) }
 {
     print_numbers(out, k, answer)?;
     print_grounds(out, grounds)?;
     writeln!(out)
+}
+
+// Its line, in one write where a `Line` has room for it.
+fn print_answer<W: Write>(out: &mut W, k: usize, answer: &[u8], grounds: &[u8]) -> io::Result<()>
+    ensures { OnOk result (Appends (W.contents out.old) (W.contents out.new) (line_read k answer.now grounds.now)) }
+{
+    let mut line = Line::new();
+    match print_parts(&mut line, k, answer, grounds) {
+        Ok(()) => line.write_to(out),
+        Err(_) => print_parts(out, k, answer, grounds),
+    }
 }
 
 // The lines of the first n records.
@@ -113,16 +129,27 @@ fn print_answers<W: Write>(out: &mut W, answers: &[u8], grounds: &[u8], n: usize
     Ok(())
 }
 
+// A line that is no record's, likewise.
+fn print_line<W: Write, D: Display + Drop>(out: &mut W, text: D) -> io::Result<()>
+    ensures { OnOk result (IfSome (with_newline (D.output text)) (Appends (W.contents out.old) (W.contents out.new))) }
+{
+    let mut line = Line::new();
+    match writeln!(line, "{text}") {
+        Ok(()) => line.write_to(out),
+        Err(_) => writeln!(out, "{text}"),
+    }
+}
+
 fn print_total<W: Write>(out: &mut W, total: u64) -> io::Result<()>
     ensures { OnOk result (Appends (W.contents out.old) (W.contents out.new) (total_text total)) }
 {
-    writeln!(out, "total {total}")
+    print_line(out, format_args!("total {total}"))
 }
 
 fn print_refusal<W: Write>(out: &mut W, refusal: u32, index: u32) -> io::Result<()>
     ensures { OnOk result (Appends (W.contents out.old) (W.contents out.new) (refusal_text refusal index)) }
 {
-    writeln!(out, "refused {refusal} at {index}")
+    print_line(out, format_args!("refused {refusal} at {index}"))
 }
 
 // Writes what a run gives back, the figures or the refusal.
