@@ -5,9 +5,8 @@
 mod record;
 mod worked;
 
-use model::{ANSWER_LENGTH, BOARD_LENGTH, Lengths};
-use record::{Record, sheet_of};
-use std::alloc::{AllocError, Global};
+use model::{ANSWER_LENGTH, BOARD_LENGTH, HEADER_LENGTH, Lengths, RECORD_LENGTH};
+use record::{Listed, Record, sheet_of};
 use std::io;
 use worked::Figure;
 
@@ -32,26 +31,17 @@ fn cartridge() -> [u8; 512] {
     rom
 }
 
-// What a run of a figure gives: the report's number, which is C's, and the answers.
-#[derive(Drop)]
-struct Given {
-    number: u32,
-    answers: Vec<u8>,
-}
-
-// On a fresh board over zeroed memories.
-fn run(alloc: Global, records: &[Record]) -> Result<Given, AllocError> {
-    let sheet = sheet_of(alloc, records)?;
+// Runs a sheet on a fresh board over zeroed memories, writes its answers, and gives the report's number, which is C's.
+fn run(sheet: &[u8], answers: &mut [u8]) -> u32 {
     let mut board = [0u8; BOARD_LENGTH];
-    let mut store = vec![in alloc; 0; STORE_LENGTH]?;
-    let mut answers = vec![in alloc; 0; ANSWER_LENGTH * records.len()]?;
+    let mut store = [0u8; STORE_LENGTH];
     let report = bts::bts_run(
-        &sheet,
+        sheet,
         &mut board,
         &mut store,
         b"",
         &cartridge(),
-        &mut answers,
+        answers,
         MEMORIES.ewram,
         MEMORIES.iwram,
         MEMORIES.io,
@@ -60,10 +50,7 @@ fn run(alloc: Global, records: &[Record]) -> Result<Given, AllocError> {
         MEMORIES.oam,
         MEMORIES.sram,
     );
-    Ok(Given {
-        number: report.number,
-        answers,
-    })
+    report.number
 }
 
 // Cycles and value of a record.
@@ -77,17 +64,21 @@ fn print_buffer<P: Print>(rt: &P, answer: &[u8]) -> io::Result<()> {
 }
 
 // Cycles and value of each record, and the run's number.
-fn show<P: Print + AllocGlobal>(rt: &P, figure: &Figure<3>) -> io::Result<()> {
-    let given = run(rt.alloc(), &figure.records)?;
+fn show<P: Print>(rt: &P, figure: &Figure<3>) -> io::Result<()> {
+    let sheet: [u8; HEADER_LENGTH + RECORD_LENGTH * 3] = sheet_of(Listed {
+        records: &figure.records,
+    });
+    let mut answers = [0u8; ANSWER_LENGTH * 3];
+    let number = run(&sheet, &mut answers);
     print!(rt; "{}:", figure.title)?;
-    for answer in given.answers.chunks_exact(ANSWER_LENGTH) {
+    for answer in answers.chunks_exact(ANSWER_LENGTH) {
         print_answer(rt, answer)?;
     }
-    println!(rt; " {}", given.number)
+    println!(rt; " {number}")
 }
 
 // Two records behind WAITCNT 0x4000 and RESTART 0x08000100: cycles, value, hits and prefetch count of each, and the run's number.
-fn show_buffer<P: Print + AllocGlobal>(rt: &P, figure: &Figure<2>) -> io::Result<()> {
+fn show_buffer<P: Print>(rt: &P, figure: &Figure<2>) -> io::Result<()> {
     let [first, second] = figure.records;
     let records = [
         Record::Waitcnt(0x4000),
@@ -95,16 +86,18 @@ fn show_buffer<P: Print + AllocGlobal>(rt: &P, figure: &Figure<2>) -> io::Result
         first,
         second,
     ];
-    let given = run(rt.alloc(), &records)?;
+    let sheet: [u8; HEADER_LENGTH + RECORD_LENGTH * 4] = sheet_of(Listed { records: &records });
+    let mut answers = [0u8; ANSWER_LENGTH * 4];
+    let number = run(&sheet, &mut answers);
     print!(rt; "{}:", figure.title)?;
-    for answer in given.answers.chunks_exact(ANSWER_LENGTH).skip(2) {
+    for answer in answers.chunks_exact(ANSWER_LENGTH).skip(2) {
         print_answer(rt, answer)?;
         print_buffer(rt, answer)?;
     }
-    println!(rt; " {}", given.number)
+    println!(rt; " {number}")
 }
 
-fn show_all<P: Print + AllocGlobal>(rt: &P, figures: &[Figure<3>]) -> io::Result<()> {
+fn show_all<P: Print>(rt: &P, figures: &[Figure<3>]) -> io::Result<()> {
     for figure in figures {
         show(rt, figure)?;
     }

@@ -1,12 +1,12 @@
 // A record of a figure's sheet, and the sheet of a list of records. From docs/RULES.md, "The sheet"
 // and "The kinds of record".
-ghost use Rattle.std.specs.Prelude.{◌≡◌, ◌+◌, ◌*◌, ◌≤◌, length, IfOk};
-ghost use Rattle.model.specs.Sheet.{header_length, record_length, step_of};
+ghost use Rattle.std.specs.Prelude.{◌≡◌, ◌+◌, ◌*◌, ◌≤◌, length, take, map};
+ghost use Rattle.model.specs.Sheet.{header_length, record_length, records_from, step_of};
+ghost use Rattle.model.specs.Laws.WrittenSheet.{header_bytes};
 ghost use Rattle.model.specs.Wait.{access_size_of};
 ghost use Rattle.figures.specs.Record.{record_in, plain_record, step_for};
 
-use model::{AccessSize, RECORD_LENGTH};
-use std::alloc::{AllocError, Global};
+use model::{AccessSize, HEADER_LENGTH, RECORD_LENGTH};
 
 // Each kind of the first version, with the address and the value of those that have them.
 #[derive(Clone, Copy)]
@@ -65,14 +65,29 @@ impl Record {
     }
 }
 
-// The sheet of these records, of version 1.
-pub(crate) fn sheet_of(alloc: Global, records: &[Record]) -> Result<Vec<u8>, AllocError>
-    ensures { IfOk result (λ sheet. length sheet.items ≡ header_length + record_length * length records.now) }
+// Records whose sheet is L bytes long. Whoever makes one shows that it is, so that the sheet has an array of its own length.
+#[derive(Clone, Copy)]
+pub(crate) struct Listed<'a, const L: usize> {
+    pub records: &'a [Record],
+    ghost whole: { L ≡ header_length + record_length * length records.now },
+}
+
+// Their sheet, of version 1.
+pub(crate) fn sheet_of<const L: usize>(listed: Listed<'_, L>) -> [u8; L]
+    ensures whole { length result ≡ header_length + record_length * length listed.entry.records.now }
+    ensures header { take header_length result ≡ header_bytes 1 (length listed.entry.records.now) }
+    ensures steps { map step_of (records_from result 0 (length listed.entry.records.now))
+        ≡ map step_for listed.entry.records.now }
 {
+    let records = listed.records;
     let [low, high, ..] = records.len().to_le_bytes();
-    let mut sheet = vec![in alloc; b'B', b'T', b'S', 1, 0, 0, low, high]?;
-    for record in records {
-        sheet.extend_from_slice(&record.to_bytes())?;
+    let mut sheet = [0; L];
+    // a slice of all of it, since no part can be lent of an array whose length is a parameter
+    let bytes = &mut sheet[..];
+    bytes[..HEADER_LENGTH].copy_from_slice(&[b'B', b'T', b'S', 1, 0, 0, low, high]);
+    for (k, record) in records.iter().enumerate() {
+        let at = HEADER_LENGTH + RECORD_LENGTH * k;
+        bytes[at..at + RECORD_LENGTH].copy_from_slice(&record.to_bytes());
     }
-    Ok(sheet)
+    sheet
 }

@@ -1,6 +1,6 @@
--- the sheet has its header and the records passed
-use Rattle.std.proofs.Common.{◌≡◌, ◌+◌, ◌*◌, length}
+-- The header stands, and the first k records.
+use Rattle.figures.proofs.Sheet.{Begun}
 use Rattle.figures.proofs.record.sheet_of.Given as goal
 
-abbrev pub invariant-loop-record : goal.invariant-loop-record
-invariant-loop-record l = length l.sheet.items ≡ 8 + 12 * l.record-index
+abbrev pub invariant-loop-k : goal.invariant-loop-k
+invariant-loop-k g l = Begun l.records l.k l.bytes

@@ -1,0 +1,2 @@
+-- Lemmas of the proofs about `figures`.
+mod Sheet
