@@ -1,5 +1,6 @@
 -- What the contracts of `replay` cite. Assumes nothing.
 pub mod Pattern
 pub mod Head
+pub mod Space
 pub mod Buffers
 pub mod Ran

@@ -9,6 +9,7 @@ use Rattle.bts.specs.Explained.{reported_grounds}
 use Rattle.bts.specs.declared.Report.{Report}
 use Rattle.bts.specs.declared.Bill.{Bill}
 use Rattle.model.specs.declared.Lengths.{Lengths}
+use Rattle.replay.specs.Space.{in_use}
 use Rattle.replay.specs.declared.buffers.Buffers.{Buffers}
 use Rattle.replay.specs.declared.head.Head.{Head}
 use Rattle.replay.specs.declared.head.Operation.{Operation}
@@ -18,12 +19,12 @@ use Rattle.replay.specs.declared.head.Operation.TheVariants.{Run, RunTariff, Pre
 abbrev pub lent_in_case : Lengths → Buffers → Lent
 lent_in_case l b =
     record {
-      sheet = b.sheet.items;
-      board = b.board.items;
-      store = b.store.items;
-      bios = b.bios.items;
-      rom = b.rom.items;
-      answers = b.answers.items;
+      sheet = in_use b.sheet;
+      board = in_use b.board;
+      store = in_use b.store;
+      bios = in_use b.bios;
+      rom = in_use b.rom;
+      answers = in_use b.answers;
       lengths = l;
     }
 
@@ -34,13 +35,13 @@ uncharged r = record { number = r.number; index = r.index; total = r.total }
 -- from the buffers before it, the bill that is told and the buffers after it
 abbrev pub RanAs : Operation → Head → Buffers → Bill → Buffers → Type 0
 RanAs Run h b r a =
-    reported (uncharged r) a.board.items a.store.items a.answers.items ≡ outcome (lent_in_case h.memories b)
+    reported (uncharged r) (in_use a.board) (in_use a.store) (in_use a.answers) ≡ outcome (lent_in_case h.memories b)
 RanAs RunTariff h b r a =
-    reported_bill r a.board.items a.store.items a.answers.items a.second.items
-    ≡ bill (record { run = lent_in_case h.memories b; shares = b.second.items; rate = h.asked.rate })
+    reported_bill r (in_use a.board) (in_use a.store) (in_use a.answers) (in_use a.second)
+    ≡ bill (record { run = lent_in_case h.memories b; shares = in_use b.second; rate = h.asked.rate })
 RanAs Preview h b r a =
-    reported_preview (uncharged r) a.sheet.items a.board.items a.answers.items
-    ≡ preview (record { sheet = b.sheet.items; board = b.board.items; answers = b.answers.items })
+    reported_preview (uncharged r) (in_use a.sheet) (in_use a.board) (in_use a.answers)
+    ≡ preview (record { sheet = in_use b.sheet; board = in_use b.board; answers = in_use b.answers })
 RanAs RunGrounds h b r a =
-    reported_grounds (uncharged r) a.board.items a.store.items a.answers.items a.second.items
-    ≡ explain (record { run = lent_in_case h.memories b; grounds = b.second.items })
+    reported_grounds (uncharged r) (in_use a.board) (in_use a.store) (in_use a.answers) (in_use a.second)
+    ≡ explain (record { run = lent_in_case h.memories b; grounds = in_use b.second })

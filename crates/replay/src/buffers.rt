@@ -6,64 +6,66 @@ ghost use Rattle.model.specs.Preview as model;
 ghost use Rattle.model.specs.Grounds.{explain};
 ghost use Rattle.bts.specs.Reported.{reported, reported_bill, reported_preview};
 ghost use Rattle.bts.specs.Explained.{reported_grounds};
+ghost use Rattle.replay.specs.Space.{in_use};
 ghost use Rattle.replay.specs.Buffers.{IsSetUp};
 ghost use Rattle.replay.specs.Ran as given;
 
-use crate::head::{Head, Operation};
-use crate::pattern;
+use crate::head::{
+    Head, MOST_ANSWERS, MOST_BIOS, MOST_BOARD, MOST_ROM, MOST_SECOND, MOST_SHEET, MOST_STORE,
+    Operation,
+};
 use crate::pattern::Buffer;
-use crate::sample::{BadSample, read_bytes};
+use crate::sample::BadSample;
+use crate::space::Space;
 use bts::Bill;
 use model::Lengths;
-use std::alloc::Global;
 use std::io::Read;
 
 #[derive(Drop)]
 pub struct Buffers {
-    pub sheet: Vec<u8>,
-    pub board: Vec<u8>,
-    pub store: Vec<u8>,
-    pub bios: Vec<u8>,
-    pub rom: Vec<u8>,
-    pub answers: Vec<u8>,
+    pub sheet: Space<MOST_SHEET>,
+    pub board: Space<MOST_BOARD>,
+    pub store: Space<MOST_STORE>,
+    pub bios: Space<MOST_BIOS>,
+    pub rom: Space<MOST_ROM>,
+    pub answers: Space<MOST_ANSWERS>,
     // The shares or the grounds.
-    pub second: Vec<u8>,
+    pub second: Space<MOST_SECOND>,
+    // What the sample has of one of these after the run. None that it has is longer.
+    pub wanted: Space<MOST_SECOND>,
 }
 
 // What has no tariff is told as a bill that charges nothing. A function an operation: their parameters are C's, each its own.
 impl Buffers {
     // Reads the sheet and the board, and makes the rest.
-    pub(crate) fn read<R: Read>(
-        alloc: Global,
-        input: &mut R,
-        head: Head,
-    ) -> Result<Buffers, BadSample>
-        ensures { IfOk result (IsSetUp head) }
+    pub(crate) fn read<R: Read>(&mut self, input: &mut R, head: Head) -> Result<(), BadSample>
+        ensures { IfOk result (λ _. IsSetUp head self.new) }
     {
         let n = head.buffers;
         let seed = head.asked.seed;
-        Ok(Buffers {
-            sheet: read_bytes(alloc, input, n.sheet)?,
-            board: read_bytes(alloc, input, n.board)?,
-            store: pattern::filled(alloc, n.store, seed, Buffer::Store)?,
-            bios: pattern::filled(alloc, n.bios, seed, Buffer::Bios)?,
-            rom: pattern::filled(alloc, n.rom, seed, Buffer::Rom)?,
-            answers: pattern::filled(alloc, n.answers, seed, Buffer::Answers)?,
-            second: pattern::filled(alloc, n.second, seed, Buffer::Second)?,
-        })
+        self.sheet.read(input, n.sheet)?;
+        self.board.read(input, n.board)?;
+        self.store.fill(n.store, seed, Buffer::Store)?;
+        self.bios.fill(n.bios, seed, Buffer::Bios)?;
+        self.rom.fill(n.rom, seed, Buffer::Rom)?;
+        self.answers.fill(n.answers, seed, Buffer::Answers)?;
+        self.second.fill(n.second, seed, Buffer::Second)
     }
 
     fn run_plain(&mut self, x: Lengths) -> Bill
-        ensures { reported (given.uncharged result) self.new.board.items self.new.store.items self.new.answers.items
+        ensures { reported (given.uncharged result) (in_use self.new.board) (in_use self.new.store) (in_use self.new.answers)
             ≡ outcome (given.lent_in_case x self.old) }
     {
+        let board = &mut self.board;
+        let store = &mut self.store;
+        let answers = &mut self.answers;
         bts::bts_run(
-            &self.sheet,
-            &mut self.board,
-            &mut self.store,
-            &self.bios,
-            &self.rom,
-            &mut self.answers,
+            self.sheet.used(),
+            &mut board.bytes[..board.len.n],
+            &mut store.bytes[..store.len.n],
+            self.bios.used(),
+            self.rom.used(),
+            &mut answers.bytes[..answers.len.n],
             x.ewram,
             x.iwram,
             x.io,
@@ -76,18 +78,22 @@ impl Buffers {
     }
 
     fn run_tariff(&mut self, x: Lengths, rate: u32) -> Bill
-        ensures { reported_bill result self.new.board.items self.new.store.items self.new.answers.items
-            self.new.second.items
-            ≡ bill (record { run = given.lent_in_case x self.old; shares = self.old.second.items; rate = rate }) }
+        ensures { reported_bill result (in_use self.new.board) (in_use self.new.store) (in_use self.new.answers)
+            (in_use self.new.second)
+            ≡ bill (record { run = given.lent_in_case x self.old; shares = in_use self.old.second; rate = rate }) }
     {
+        let board = &mut self.board;
+        let store = &mut self.store;
+        let answers = &mut self.answers;
+        let second = &mut self.second;
         bts::bts_run_tariff(
-            &self.sheet,
-            &mut self.board,
-            &mut self.store,
-            &self.bios,
-            &self.rom,
-            &mut self.answers,
-            &mut self.second,
+            self.sheet.used(),
+            &mut board.bytes[..board.len.n],
+            &mut store.bytes[..store.len.n],
+            self.bios.used(),
+            self.rom.used(),
+            &mut answers.bytes[..answers.len.n],
+            &mut second.bytes[..second.len.n],
             x.ewram,
             x.iwram,
             x.io,
@@ -100,18 +106,22 @@ impl Buffers {
     }
 
     fn run_grounds(&mut self, x: Lengths) -> Bill
-        ensures { reported_grounds (given.uncharged result) self.new.board.items self.new.store.items
-            self.new.answers.items self.new.second.items
-            ≡ explain (record { run = given.lent_in_case x self.old; grounds = self.old.second.items }) }
+        ensures { reported_grounds (given.uncharged result) (in_use self.new.board) (in_use self.new.store)
+            (in_use self.new.answers) (in_use self.new.second)
+            ≡ explain (record { run = given.lent_in_case x self.old; grounds = in_use self.old.second }) }
     {
+        let board = &mut self.board;
+        let store = &mut self.store;
+        let answers = &mut self.answers;
+        let second = &mut self.second;
         bts::bts_run_grounds(
-            &self.sheet,
-            &mut self.board,
-            &mut self.store,
-            &self.bios,
-            &self.rom,
-            &mut self.answers,
-            &mut self.second,
+            self.sheet.used(),
+            &mut board.bytes[..board.len.n],
+            &mut store.bytes[..store.len.n],
+            self.bios.used(),
+            self.rom.used(),
+            &mut answers.bytes[..answers.len.n],
+            &mut second.bytes[..second.len.n],
             x.ewram,
             x.iwram,
             x.io,
@@ -124,15 +134,21 @@ impl Buffers {
     }
 
     fn preview(&mut self) -> Bill
-        ensures { reported_preview (given.uncharged result) self.new.sheet.items self.new.board.items
-            self.new.answers.items
+        ensures { reported_preview (given.uncharged result) (in_use self.new.sheet) (in_use self.new.board)
+            (in_use self.new.answers)
             ≡ model.preview (record {
-              sheet = self.old.sheet.items;
-              board = self.old.board.items;
-              answers = self.old.answers.items;
+              sheet = in_use self.old.sheet;
+              board = in_use self.old.board;
+              answers = in_use self.old.answers;
             }) }
     {
-        bts::bts_preview(&self.sheet, &self.board, &mut self.answers).billed(0)
+        let answers = &mut self.answers;
+        bts::bts_preview(
+            self.sheet.used(),
+            self.board.used(),
+            &mut answers.bytes[..answers.len.n],
+        )
+        .billed(0)
     }
 
     // Does what the case asks.

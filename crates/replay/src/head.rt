@@ -7,6 +7,21 @@ use crate::sample::BadSample;
 use le::word_at;
 use model::Lengths;
 
+// The most that a case of the sample lends.
+pub const MOST_SHEET: usize = 49172;
+
+pub const MOST_BOARD: usize = 144;
+
+pub const MOST_STORE: usize = 462853;
+
+pub const MOST_BIOS: usize = 16385;
+
+pub const MOST_ROM: usize = 131136;
+
+pub const MOST_ANSWERS: usize = 49164;
+
+pub const MOST_SECOND: usize = 131104;
+
 // The lengths of what a case lends.
 #[derive(Clone, Copy)]
 pub struct BufferLengths {
@@ -34,17 +49,17 @@ impl BufferLengths {
         }
     }
 
-    // Whether that is no more than a case of the sample lends, so that a damaged one can't ask for any amount of memory.
+    // Whether that is no more than a case of the sample lends, for which there is room.
     fn fits(self) -> bool
         ensures { result ≡ buffers_fit self }
     {
-        self.sheet <= 49172
-            && self.board <= 144
-            && self.store <= 462853
-            && self.bios <= 16385
-            && self.rom <= 131136
-            && self.answers <= 49164
-            && self.second <= 131104
+        self.sheet <= MOST_SHEET
+            && self.board <= MOST_BOARD
+            && self.store <= MOST_STORE
+            && self.bios <= MOST_BIOS
+            && self.rom <= MOST_ROM
+            && self.answers <= MOST_ANSWERS
+            && self.second <= MOST_SECOND
     }
 }
 

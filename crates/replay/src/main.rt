@@ -24,37 +24,42 @@ mod compare;
 mod head;
 mod pattern;
 mod sample;
+mod space;
 
 ghost use Rattle.std.specs.Prelude.{◌≤◌};
 
 use buffers::Buffers;
 use compare::Case;
-use head::Head;
+use head::{
+    Head, MOST_ANSWERS, MOST_BIOS, MOST_BOARD, MOST_ROM, MOST_SECOND, MOST_SHEET, MOST_STORE,
+};
 use sample::{BadSample, read_array, read_u32};
+use space::{Length, Space};
 use std::io;
 use std::io::Read;
 
 // Does a case, and answers whether it agrees.
-fn replay_case<P: Print + AllocGlobal, R: Read>(
+fn replay_case<P: Print, R: Read>(
     rt: &P,
     input: &mut R,
+    buffers: &mut Buffers,
     number: u32,
 ) -> Result<bool, BadSample> {
     let bytes: [u8; 68] = read_array(input)?;
     let head = Head::parse(&bytes)?;
-    let mut buffers = Buffers::read(rt.alloc(), input, head)?;
+    buffers.read(input, head)?;
     let bill = buffers.run(head);
     let case = Case { rt, number };
-    case.compare(input, bill, &mut buffers, head.asked.seed)
+    case.compare(input, bill, buffers, head.asked.seed)
 }
 
 // Replays cases until all are done or one is cut off or too long, and answers how many agree.
-fn replay_all<P: Print + AllocGlobal, R: Read>(rt: &P, input: &mut R, count: u32) -> u32
+fn replay_all<P: Print, R: Read>(rt: &P, input: &mut R, buffers: &mut Buffers, count: u32) -> u32
     ensures { result ≤ count }
 {
     let mut agree: u32 = 0;
     for case in 0..count {
-        match replay_case(rt, input, case) {
+        match replay_case(rt, input, buffers, case) {
             Ok(same) => agree += u32::from(same),
             Err(bad) => {
                 let _ = println!(rt; "case {case}: {bad}");
@@ -65,15 +70,50 @@ fn replay_all<P: Print + AllocGlobal, R: Read>(rt: &P, input: &mut R, count: u32
     agree
 }
 
-fn replay<P: Print + AllocGlobal, R: Read>(rt: &P, input: &mut R) -> io::Result<()> {
-    let count = match read_u32(input) {
-        Ok(count) => count,
-        Err(bad) => return println!(rt; "{bad}"),
+// The buffers stand here, for all the cases. As a function's result they would be copied, and take the stack twice.
+fn replay<P: Print, R: Read>(rt: &P, input: &mut R, count: u32) -> io::Result<()> {
+    let mut buffers = Buffers {
+        sheet: Space {
+            bytes: [0; MOST_SHEET],
+            len: Length { n: 0 },
+        },
+        board: Space {
+            bytes: [0; MOST_BOARD],
+            len: Length { n: 0 },
+        },
+        store: Space {
+            bytes: [0; MOST_STORE],
+            len: Length { n: 0 },
+        },
+        bios: Space {
+            bytes: [0; MOST_BIOS],
+            len: Length { n: 0 },
+        },
+        rom: Space {
+            bytes: [0; MOST_ROM],
+            len: Length { n: 0 },
+        },
+        answers: Space {
+            bytes: [0; MOST_ANSWERS],
+            len: Length { n: 0 },
+        },
+        second: Space {
+            bytes: [0; MOST_SECOND],
+            len: Length { n: 0 },
+        },
+        wanted: Space {
+            bytes: [0; MOST_SECOND],
+            len: Length { n: 0 },
+        },
     };
-    let agree = replay_all(rt, input, count);
+    let agree = replay_all(rt, input, &mut buffers, count);
     println!(rt; "{agree} of {count} agree")
 }
 
 fn main(rt: HostRuntime) -> io::Result<()> {
-    replay(&rt, &mut rt.reader())
+    let mut input = rt.reader();
+    match read_u32(&mut input) {
+        Ok(count) => replay(&rt, &mut input, count),
+        Err(bad) => println!(rt; "{bad}"),
+    }
 }

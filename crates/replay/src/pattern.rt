@@ -1,9 +1,7 @@
 // What the store, the BIOS, the ROM, the answers and the second buffer, that of the shares or of the grounds, hold before a run.
 // It follows from the case's seed, so the sample need not have these bytes.
-ghost use Rattle.std.specs.Prelude.{◌≡◌, ◌↔◌, ℕ, ◌<◌, length, get_or, IsTrue, IfOk};
-ghost use Rattle.replay.specs.Pattern.{pattern_byte, tag_of, IsFilled};
-
-use std::alloc::{AllocError, Global};
+ghost use Rattle.std.specs.Prelude.{◌≡◌, ◌↔◌, ℕ, ◌<◌, length, get_or, IsTrue};
+ghost use Rattle.replay.specs.Pattern.{pattern_byte, tag_of};
 
 // A buffer that the sample does not have, by its tag in the formula.
 #[derive(Clone, Copy)]
@@ -30,20 +28,6 @@ pub fn fill(out: &mut [u8], seed: u32, buffer: Buffer)
     for (i, byte) in out.iter_mut().enumerate() {
         *byte = byte_at(i, seed, buffer);
     }
-}
-
-// A buffer of this length as it is before the run.
-pub(crate) fn filled(
-    alloc: Global,
-    n: usize,
-    seed: u32,
-    buffer: Buffer,
-) -> Result<Vec<u8>, AllocError>
-    ensures { IfOk result (λ v. IsFilled v.items n seed buffer) }
-{
-    let mut bytes = vec![in alloc; 0; n]?;
-    fill(&mut bytes, seed, buffer);
-    Ok(bytes)
 }
 
 pub fn is_filled(a: &[u8], seed: u32, buffer: Buffer) -> bool

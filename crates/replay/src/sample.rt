@@ -1,14 +1,13 @@
 // The sample as it is read: so many bytes at a time, or none if it ends before that.
-ghost use Rattle.std.specs.Prelude.{◌≡◌, List, ℕ, length, IfOk};
+ghost use Rattle.std.specs.Prelude.{◌≡◌, List, ℕ, IfOk};
 ghost use Rattle.std.specs.Int.{w32, w64, from_le_bytes};
 ghost use Rattle.std.specs.Io.KnownBytes.{Consumes};
 
-use std::alloc::{AllocError, Global};
 use std::error::Error;
 use std::io::Read;
 use std::{fmt, io};
 
-// The sample is cut off, a case of it asks for more than there is, or memory has run out.
+// The sample is cut off, or a case of it asks for more than there is.
 #[derive(Clone, Copy, Debug)]
 pub struct BadSample;
 
@@ -22,12 +21,6 @@ impl Error for BadSample {}
 
 impl From<io::Error> for BadSample {
     fn from(_e: io::Error) -> BadSample {
-        BadSample
-    }
-}
-
-impl From<AllocError> for BadSample {
-    fn from(_e: AllocError) -> BadSample {
         BadSample
     }
 }
@@ -52,17 +45,4 @@ pub(crate) fn read_u64<R: Read>(input: &mut R) -> Result<u64, BadSample>
         × Consumes (R.remaining input.old) (R.remaining input.new) bytes) }
 {
     Ok(u64::from_le_bytes(read_array(input)?))
-}
-
-pub(crate) fn read_bytes<R: Read>(
-    alloc: Global,
-    input: &mut R,
-    n: usize,
-) -> Result<Vec<u8>, BadSample>
-    ensures len { IfOk result (λ bytes. length bytes.items ≡ n) }
-    ensures bytes { IfOk result (λ bytes. Consumes (R.remaining input.old) (R.remaining input.new) bytes.items) }
-{
-    let mut bytes = vec![in alloc; 0; n]?;
-    input.read_exact(&mut bytes)?;
-    Ok(bytes)
 }
